@@ -1,0 +1,105 @@
+//! The choice of the fixed list: the same problems every time, as different from each other as can be had.
+
+use crate::climb::{self, GOALS};
+use crate::coverage;
+use crate::known::KNOWN;
+use crate::list::Record;
+use crate::makers::{self, Shape, Size, Weights, LARGE, SHAPES, SMALL, WEIGHTS};
+use crate::problem::{Problem, MOST_EDGES, MOST_NODES, MOST_WEIGHT};
+use crate::random::Random;
+use crate::run;
+use std::collections::HashSet;
+
+/// Problems of each shape, kind of weights and flag: node counts and how many are kept.
+const MADE: [(Size, usize); 2] = [(SMALL, 18), ((10, 16), 5)];
+/// How many are made for one that is kept.
+const POOL: usize = 40;
+/// How many graphs on few nodes are kept.
+const FEW: usize = 400;
+/// Climbs for each goal.
+const CLIMBS: usize = 160;
+const CLIMB_TRIES: usize = 400;
+/// Large problems of each shape.
+const LARGE_MADE: usize = 3;
+
+/// Chooses from a pool: first those whose branches no earlier problem took in the same way.
+struct Chooser {
+    seen: HashSet<Vec<[bool; 2]>>,
+    kept: Vec<Problem>,
+}
+
+impl Chooser {
+    fn choose(&mut self, pool: Vec<Problem>, count: usize) {
+        let mut known = Vec::new();
+        let before = self.kept.len();
+        for problem in pool {
+            if self.kept.len() == before + count {
+                return;
+            }
+            if self.seen.insert(coverage::signature(&run::twin(&problem).1)) {
+                self.kept.push(problem);
+            } else {
+                known.push(problem);
+            }
+        }
+        let missing = before + count - self.kept.len();
+        self.kept.extend(known.into_iter().take(missing));
+    }
+}
+
+/// The records of the fixed list.
+pub fn records() -> Vec<Record> {
+    let mut random = Random::new(2024);
+    let mut chooser = Chooser { seen: HashSet::new(), kept: Vec::new() };
+    chooser.kept.extend(KNOWN.iter().map(|known| known.problem()));
+    chooser.choose(few_nodes(&mut random), FEW);
+    for shape in SHAPES {
+        for weights in WEIGHTS {
+            for (size, count) in MADE {
+                for flag in [false, true] {
+                    let make = |_| makers::make(shape, weights, size, flag, &mut random);
+                    chooser.choose((0..POOL * count).map(make).collect(), count);
+                }
+            }
+        }
+    }
+    for goal in GOALS {
+        let climb = |_| climb::climb(goal, (6, 13), CLIMB_TRIES, &mut random, |_| {});
+        chooser.choose((0..CLIMBS).map(climb).collect(), CLIMBS);
+    }
+    chooser.kept.extend(large(&mut random));
+    chooser.kept.iter().map(Record::answer).collect()
+}
+
+/// Graphs on up to five nodes.
+fn few_nodes(random: &mut Random) -> Vec<Problem> {
+    let mut pool = Vec::new();
+    for (nodes, weights) in [(3, &[-1, 0, 1, 2][..]), (4, &[-1, 0, 2][..]), (5, &[1, 2][..])] {
+        makers::every(nodes, weights, |problem| pool.push(makers::shuffled(&problem, random)));
+    }
+    random.shuffle(&mut pool);
+    pool
+}
+
+/// Problems up to the limits of nodes, edges and weights.
+fn large(random: &mut Random) -> Vec<Problem> {
+    let mut out = Vec::new();
+    for shape in SHAPES {
+        if shape != Shape::Dense && shape != Shape::Complete {
+            for number in 0..LARGE_MADE {
+                let weights = random.pick(&WEIGHTS);
+                out.push(makers::make(shape, weights, LARGE, number % 2 == 1, random));
+            }
+        }
+    }
+    let full = (MOST_NODES as i64, MOST_NODES as i64);
+    for (weights, flag) in [(Weights::Wide, false), (Weights::Small, true), (Weights::Sloped, false)] {
+        let mut problem = makers::make(Shape::Complete, weights, full, flag, random);
+        while problem.edges.len() < MOST_EDGES {
+            let (first, second, _) = random.pick(&problem.edges);
+            problem.edges.push((second, first, random.between(-MOST_WEIGHT, MOST_WEIGHT)));
+        }
+        out.push(problem);
+    }
+    out
+}

@@ -1,0 +1,81 @@
+//! Climbing: a problem is changed at random, and the change is kept where the run gets richer.
+
+use crate::makers::{self, Size, SHAPES, WEIGHTS};
+use crate::problem::{Problem, MOST_EDGES, MOST_WEIGHT};
+use crate::random::Random;
+use crate::run;
+use crate::trace::Trace;
+
+#[derive(Clone, Copy, Debug, PartialEq, Eq)]
+pub enum Goal {
+    Groups,
+    Depth,
+    Expansions,
+}
+
+pub const GOALS: [Goal; 3] = [Goal::Groups, Goal::Depth, Goal::Expansions];
+
+fn score(goal: Goal, trace: &Trace) -> [usize; 3] {
+    let (groups, depth, within) = (trace.groups, trace.deepest, trace.expanded_within);
+    match goal {
+        Goal::Groups => [groups, within, depth],
+        Goal::Depth => [depth, groups, within],
+        Goal::Expansions => [within, depth, groups],
+    }
+}
+
+/// Climbs from a made problem. Every problem tried is told; the best is the result.
+pub fn climb(
+    goal: Goal,
+    size: Size,
+    tries: usize,
+    random: &mut Random,
+    mut tried: impl FnMut(&Problem),
+) -> Problem {
+    let (shape, weights) = (random.pick(&SHAPES), random.pick(&WEIGHTS));
+    let mut best = makers::make(shape, weights, size, random.chance(50), random);
+    let mut best_score = score(goal, &run::twin(&best).1);
+    for _ in 0..tries {
+        let mut other = best.clone();
+        for _ in 0..1 + random.below(3) {
+            change(&mut other, random);
+        }
+        tried(&other);
+        let other_score = score(goal, &run::twin(&other).1);
+        if other_score >= best_score {
+            (best, best_score) = (other, other_score);
+        }
+    }
+    best
+}
+
+fn change(problem: &mut Problem, random: &mut Random) {
+    let count = problem.edges.len();
+    let at = random.below(count);
+    match random.below(16) {
+        0..=6 => {
+            let step = random.pick(&[-4, -2, -1, 1, 2, 4]);
+            let weight = (problem.edges[at].2 + step).clamp(-MOST_WEIGHT, MOST_WEIGHT);
+            problem.edges[at].2 = weight;
+        }
+        7..=8 => problem.edges[at].2 = problem.edges[random.below(count)].2,
+        9..=10 => problem.edges.swap(at, random.below(count)),
+        11 => problem.edges[at] = (problem.edges[at].1, problem.edges[at].0, problem.edges[at].2),
+        12 => {
+            let other = random.below(problem.nodes);
+            if other != problem.edges[at].0 {
+                problem.edges[at].1 = other;
+            }
+        }
+        13..=14 if count < MOST_EDGES => {
+            let (first, second) = (random.below(problem.nodes), random.below(problem.nodes));
+            if first != second {
+                problem.edges.insert(at, (first, second, problem.edges[at].2));
+            }
+        }
+        _ if count > 1 => {
+            problem.edges.remove(at);
+        }
+        _ => {}
+    }
+}
