@@ -3,13 +3,13 @@
 use mathlib.Core.Path.{_≡_, refl, sym, ap, _∙_}
 use mathlib.Core.Bool.{Bool, true, false, cond}
 use mathlib.Core.Logic.{_≢_, _⊎_, inl, inr, ⊎-elim}
-use mathlib.Core.List.{List, [], _∷_}
+use mathlib.Core.List.{List, [], _∷_, _++_}
 use Prim.Native.Nat.{ℕ, zero, suc, _+_, _*_, _<_, _≤_, zero-le}
 use native.Mathlib.Nat.{eq-or-lt-of-le, le-refl}
 use native.Mathlib.Omega.{arith}
 use lib.Dec.{T, eqb, eqb→eq, eqb-refl}
 use lib.IntN.{ℤ, natAbs}
-use lib.ListN.{length, getD}
+use lib.ListN.{length, getD, replicate}
 use Rattle.laws.specs.Lists.{Each, Some, EachPair, range, keep, sum, total}
 use Rattle.laws.proofs.Integers.{abs-add, up, down, add-parts, pos-parts}
 
@@ -53,6 +53,12 @@ each-keep {Q} p f (x ∷ xs) h = go (p x) (f x (h .0)) (each-keep p f xs (h .1))
     go true g r = (g tt, r)
     go false g r = r
 
+-- tests that agree keep the same entries
+pub keep-same : {A : Type 0} (p q : A → Bool) → ((x : A) → p x ≡ q x) → (l : List A) → keep p l ≡ keep q l
+unfolding keep
+keep-same p q h [] = refl
+keep-same p q h (x ∷ xs) = rw (h x, keep-same p q h xs)
+
 -- an entry that passes is kept
 pub some-kept : (P : ℕ → Type 0) (p : ℕ → Bool) (e s c : ℕ) → P e → T (p e) → s ≤ e → e < s + c → Some P (keep p (range s c))
 unfolding keep range
@@ -80,6 +86,14 @@ pairs-kept {R} p f s (suc c) = go (p s) (λ t. each-keep p (λ g l u. f s g l t 
     go : (b : Bool) → (T b → Each (R s) rest) → EachPair R rest → EachPair R (cond b (s ∷ rest) rest)
     go true g r = (g tt, r)
     go false g r = r
+
+-- a list padded with what stands for a missing entry reads the same
+pub getD-padded : {A : Type 0} (xs : List A) (k i : ℕ) (d : A) → getD (xs ++ replicate k d) i d ≡ getD xs i d
+getD-padded (x ∷ xs) k zero d = refl
+getD-padded (x ∷ xs) k (suc i) d = getD-padded xs k i d
+getD-padded [] zero i d = refl
+getD-padded [] (suc k) zero d = refl
+getD-padded [] (suc k) (suc i) d = getD-padded [] k i d
 
 -- ---- sums
 

@@ -1,6 +1,6 @@
 -- Lists: a fact of each entry, of some entry, of any two; ranges of numbers, the entries that pass a test; sums of naturals and of integers.
 -- Definitions only.
-use mathlib.Core.Bool.{Bool, true, false, cond, _&&_}
+use mathlib.Core.Bool.{Bool, true, false, cond, _&&_, _||_}
 use mathlib.Core.Logic.{_⊎_}
 use mathlib.Core.List.{List, [], _∷_}
 use Prim.Native.Nat.{ℕ, zero, suc, _+_}
@@ -43,12 +43,12 @@ all p (x ∷ xs) = p x && all p xs
 
 unfoldable pub member : ℕ → List ℕ → Bool
 member x [] = false
-member x (y ∷ ys) = elim (eqb y x) [ true ↦ true | false ↦ member x ys ]
+member x (y ∷ ys) = eqb y x || member x ys
 
 -- some number is there twice
 unfoldable pub repeats : List ℕ → Bool
 repeats [] = false
-repeats (x ∷ xs) = elim (member x xs) [ true ↦ true | false ↦ repeats xs ]
+repeats (x ∷ xs) = member x xs || repeats xs
 
 -- ---- sums
 

@@ -83,7 +83,7 @@ pop (x ∷ y ∷ ys) = pop (y ∷ ys) >>= λ r. ok (record { last = r .last; res
 -- xs.iter().position(|y| y == x).unwrap(), counted from i
 unfoldable pub positionFrom : (i x : ℕ) → List ℕ → Run ℕ
 positionFrom i x [] = fault
-positionFrom i x (y ∷ ys) = elim (eqb y x) [ true ↦ ok i | false ↦ positionFrom (suc i) x ys ]
+positionFrom i x (y ∷ ys) = let later = positionFrom (suc i) x ys in if eqb y x then ok i else later
 
 abbrev pub position : ℕ → List ℕ → Run ℕ
 position x ys = positionFrom 0 x ys

@@ -13,7 +13,7 @@ use lib.ListN.{length, getD}
 use Rattle.laws.specs.Integers.{lesser, leastFrom, least}
 use lib.Signed.{ltZ}
 use Rattle.laws.specs.Lists.{Some, EachPair}
-use Rattle.matching.specs.Graph.{Graph, edge, edgeCount, edgesFrom, firstOf, secondOf, weightOf, missing}
+use Rattle.matching.specs.Graph.{Graph, graphOf, edgeCount, edgesFrom, firstOf, secondOf, weightOf, missing}
 use Rattle.matching.specs.Matching.{Matching}
 use Rattle.matching.specs.Certificate.{mateOf, parentOf, matched, pairs, climb, meets, contains, MateHolds}
 use Rattle.laws.proofs.Lists.{each-map, some-kept}
@@ -101,7 +101,7 @@ least-is x xs = least-from x xs
 -- ---- edges lent as three lists
 
 abbrev lent : ℕ → List ℕ → List ℕ → List ℤ → Graph
-lent n xs ys zs = record { nodes = n; edges = edgesFrom xs ys zs }
+lent n xs ys zs = graphOf n (edgesFrom xs ys zs)
 
 pub of-slices : (n : ℕ) (xs ys : List ℕ) (zs : List ℤ) (e : ℕ) → length xs ≡ length ys → length ys ≡ length zs
     → (edgeCount (lent n xs ys zs) ≡ length xs)

@@ -24,6 +24,9 @@ pub record Graph : Type 0 where
   pub nodes : ℕ
   pub edges : List Edge
 
+abbrev pub graphOf : ℕ → List Edge → Graph
+graphOf n edges = record { nodes = n; edges = edges }
+
 abbrev pub edgeCount : Graph → ℕ
 edgeCount G = length (G .edges)
 

@@ -1,0 +1,5 @@
+pub mod Computed
+pub mod Table
+pub mod Worked
+pub mod Accepted
+pub mod Done

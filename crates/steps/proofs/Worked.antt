@@ -1,0 +1,96 @@
+-- Six rows of our own beside P1 to P13, on the routines that those do not reach: turning a group, expanding one at the close of a stage
+-- and within one, groups within groups. Their results are those of the source's own run on the same edges.
+use mathlib.Core.Path.{_≡_, refl}
+use mathlib.Core.List.{List, [], _∷_}
+use lib.IntN.{pos}
+use Rattle.matching.specs.Graph.{edge, missing}
+use Rattle.steps.specs.Table.{Row, results, expected, plain, done, plans, none, zeros}
+use Rattle.steps.proofs.Computed.{computed, holds}
+
+-- a group is turned by an augmentation, and stays, with a dual above 0
+abbrev w1 : Row
+w1 =
+    plans
+    (plain 4
+    (edge 0 1 (pos 8) ∷ edge 0 2 (pos 9) ∷ edge 1 2 (pos 10) ∷ edge 2 3 (pos 7) ∷ []))
+    (done 18
+    (1 ∷ 0 ∷ 7 ∷ 6 ∷ [])
+    (pos 5 ∷ pos 7 ∷ pos 9 ∷ pos 5 ∷ [])
+    (pos 0 ∷ pos 0 ∷ pos 0 ∷ pos 2 ∷ [])
+    (7 ∷ 7 ∷ 7 ∷ none 5))
+
+-- a group within a group: the outer turns the inner
+abbrev w2 : Row
+w2 =
+    plans
+    (plain 6
+    (edge 0 1 (pos 9) ∷ edge 0 2 (pos 9) ∷ edge 1 2 (pos 10) ∷ edge 1 3 (pos 8) ∷ edge 2 4 (pos 8) ∷
+    edge 3 4 (pos 10) ∷ edge 4 5 (pos 6) ∷ []))
+    (done 24
+    (3 ∷ 7 ∷ 2 ∷ 6 ∷ 13 ∷ 12 ∷ [])
+    (pos 3 ∷ pos 5 ∷ pos 5 ∷ pos 9 ∷ pos 9 ∷ pos 3 ∷ [])
+    (pos 0 ∷ pos 0 ∷ pos 0 ∷ pos 0 ∷ pos 1 ∷ pos 4 ∷ [])
+    (11 ∷ 11 ∷ 11 ∷ 10 ∷ 10 ∷ missing ∷ missing ∷ missing ∷ missing ∷ missing ∷ missing ∷ 10 ∷ []))
+
+-- a group within a group, both with dual 0: expanded at the close of the stage
+abbrev w3 : Row
+w3 =
+    plans
+    (plain 8
+    (edge 0 1 (pos 8) ∷ edge 0 2 (pos 8) ∷ edge 1 2 (pos 10) ∷ edge 1 3 (pos 12) ∷ edge 2 4 (pos 12) ∷
+    edge 3 4 (pos 14) ∷ edge 3 5 (pos 12) ∷ edge 4 6 (pos 12) ∷ edge 5 6 (pos 14) ∷ edge 6 7 (pos 12) ∷ []))
+    (done 28
+    (1 ∷ 0 ∷ 9 ∷ 13 ∷ 8 ∷ 12 ∷ 19 ∷ 18 ∷ [])
+    (pos 6 ∷ pos 10 ∷ pos 10 ∷ pos 14 ∷ pos 14 ∷ pos 10 ∷ pos 18 ∷ pos 6 ∷ [])
+    (zeros 8)
+    (none 16))
+
+-- a label-2 group is expanded within a stage (type 4)
+abbrev w4 : Row
+w4 =
+    plans
+    (plain 8
+    (edge 0 1 (pos 23) ∷ edge 0 4 (pos 22) ∷ edge 0 5 (pos 15) ∷ edge 1 2 (pos 25) ∷ edge 2 3 (pos 22) ∷
+    edge 3 4 (pos 25) ∷ edge 3 7 (pos 14) ∷ edge 4 6 (pos 13) ∷ []))
+    (done 43
+    (5 ∷ 7 ∷ 6 ∷ 13 ∷ 15 ∷ 4 ∷ 14 ∷ 12 ∷ [])
+    (pos 20 ∷ pos 29 ∷ pos 21 ∷ pos 26 ∷ pos 24 ∷ pos 10 ∷ pos 2 ∷ pos 2 ∷ [])
+    (zeros 8)
+    (none 16))
+
+-- a label-2 group of five is expanded within a stage, and its children get labels anew
+abbrev w5 : Row
+w5 =
+    plans
+    (plain 10
+    (edge 0 1 (pos 45) ∷ edge 0 4 (pos 45) ∷ edge 1 2 (pos 50) ∷ edge 2 3 (pos 45) ∷ edge 3 4 (pos 50) ∷
+    edge 0 5 (pos 30) ∷ edge 2 8 (pos 35) ∷ edge 3 7 (pos 35) ∷ edge 4 6 (pos 26) ∷ edge 8 9 (pos 5) ∷ []))
+    (done 56
+    (11 ∷ 5 ∷ 4 ∷ 15 ∷ 17 ∷ 10 ∷ 16 ∷ 14 ∷ 19 ∷ 18 ∷ [])
+    (pos 55 ∷ pos 35 ∷ pos 65 ∷ pos 59 ∷ pos 41 ∷ pos 5 ∷ pos 11 ∷ pos 11 ∷ pos 5 ∷ pos 5 ∷ [])
+    (zeros 10)
+    (none 20))
+
+-- a label-2 group that holds a group is expanded within a stage: the inner one stays
+abbrev w6 : Row
+w6 =
+    plans
+    (plain 12
+    (edge 0 1 (pos 45) ∷ edge 0 6 (pos 45) ∷ edge 1 2 (pos 50) ∷ edge 2 3 (pos 45) ∷ edge 3 4 (pos 95) ∷
+    edge 3 5 (pos 94) ∷ edge 4 5 (pos 94) ∷ edge 5 6 (pos 50) ∷ edge 0 7 (pos 30) ∷ edge 2 10 (pos 35) ∷
+    edge 4 8 (pos 36) ∷ edge 6 9 (pos 26) ∷ edge 10 11 (pos 5) ∷ []))
+    (done 78
+    (17 ∷ 5 ∷ 4 ∷ 11 ∷ 21 ∷ 10 ∷ 23 ∷ 16 ∷ 20 ∷ 22 ∷ 25 ∷ 24 ∷ [])
+    (pos 55 ∷ pos 35 ∷ pos 65 ∷ pos 61 ∷ pos 61 ∷ pos 59 ∷ pos 41 ∷ pos 5 ∷ pos 11 ∷ pos 11 ∷ pos 5 ∷ pos 5 ∷ [])
+    (pos 0 ∷ pos 0 ∷ pos 0 ∷ pos 0 ∷ pos 0 ∷ pos 0 ∷ pos 0 ∷ pos 0 ∷ pos 0 ∷ pos 0 ∷ pos 0 ∷ pos 34 ∷ [])
+    (missing ∷ missing ∷ missing ∷ 23 ∷ 23 ∷ 23 ∷ none 18))
+
+abbrev worked : List Row
+worked = w1 ∷ w2 ∷ w3 ∷ w4 ∷ w5 ∷ w6 ∷ []
+
+by-computing : computed worked ≡ expected worked
+unfolding computed
+by-computing = refl
+
+pub workedHold : results worked ≡ expected worked
+workedHold = holds worked by-computing
