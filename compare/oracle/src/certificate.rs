@@ -68,7 +68,8 @@ impl Certificate<'_> {
 
     fn full(&self) -> bool {
         let nodes = self.problem.nodes;
-        (nodes..2 * nodes).all(|group| {
+        let mut positive = (nodes..2 * nodes).filter(|group| self.duals[*group] > 0);
+        positive.all(|group| {
             let lies = |node: &usize| self.above(*node).any(|outer| outer == group);
             let size = (0..nodes).filter(lies).count();
             let inside = |edge: &usize| {
@@ -76,7 +77,7 @@ impl Certificate<'_> {
                 self.is_matched(*edge) && lies(&first) && lies(&second)
             };
             let matched = (0..self.problem.edges.len()).filter(inside).count();
-            self.duals[group] <= 0 || (size % 2 == 1 && matched == (size - 1) / 2)
+            size % 2 == 1 && matched == (size - 1) / 2
         })
     }
 

@@ -64,7 +64,7 @@ pub fn records() -> Vec<Record> {
         }
     }
     for goal in GOALS {
-        let climb = |_| climb::climb(goal, (6, 13), CLIMB_TRIES, &mut random, |_| {});
+        let climb = |_| climb::climb(goal, (6, 13), CLIMB_TRIES, &mut random, |problem| run::twin(problem).1);
         chooser.choose((0..CLIMBS).map(climb).collect(), CLIMBS);
     }
     chooser.kept.extend(large(&mut random));

@@ -3,7 +3,6 @@
 use crate::makers::{self, Size, SHAPES, WEIGHTS};
 use crate::problem::{Problem, MOST_EDGES, MOST_WEIGHT};
 use crate::random::Random;
-use crate::run;
 use crate::trace::Trace;
 
 #[derive(Clone, Copy, Debug, PartialEq, Eq)]
@@ -24,24 +23,23 @@ fn score(goal: Goal, trace: &Trace) -> [usize; 3] {
     }
 }
 
-/// Climbs from a made problem. Every problem tried is told; the best is the result.
+/// Climbs from a made problem by `run`, which gives the trace of a run; the best problem is the result.
 pub fn climb(
     goal: Goal,
     size: Size,
     tries: usize,
     random: &mut Random,
-    mut tried: impl FnMut(&Problem),
+    mut run: impl FnMut(&Problem) -> Trace,
 ) -> Problem {
     let (shape, weights) = (random.pick(&SHAPES), random.pick(&WEIGHTS));
     let mut best = makers::make(shape, weights, size, random.chance(50), random);
-    let mut best_score = score(goal, &run::twin(&best).1);
+    let mut best_score = score(goal, &run(&best));
     for _ in 0..tries {
         let mut other = best.clone();
         for _ in 0..1 + random.below(3) {
             change(&mut other, random);
         }
-        tried(&other);
-        let other_score = score(goal, &run::twin(&other).1);
+        let other_score = score(goal, &run(&other));
         if other_score >= best_score {
             (best, best_score) = (other, other_score);
         }

@@ -7,7 +7,8 @@ use crate::coverage::Coverage;
 use crate::makers::{self, Size, LARGE, MEDIUM, SHAPES, SMALL, WEIGHTS};
 use crate::problem::{Problem, MISSING};
 use crate::random::Random;
-use crate::run;
+use crate::run::{self, Pairs};
+use crate::trace::Trace;
 
 /// What one maker's runs showed.
 #[derive(Default)]
@@ -30,11 +31,26 @@ struct Tally {
 
 impl Tally {
     /// Runs a problem on both sides and notes what it shows.
-    fn run(&mut self, problem: &Problem, coverage: &mut Coverage) {
-        self.runs += 1;
+    fn run(&mut self, problem: &Problem, coverage: &mut Coverage) -> Trace {
         let found = run::source(problem);
         let (twin_found, trace) = run::twin(problem);
         coverage.add(&trace);
+        self.measure(problem, &trace);
+        if let Some(cause) = trace.fault {
+            self.trouble(format!("cause of FAULT: {cause}"), problem);
+        }
+        if found != twin_found {
+            self.trouble("source and twin part".into(), problem);
+        }
+        match found {
+            Err(stop) => self.trouble(format!("stop: {stop}"), problem),
+            Ok(pairs) => self.judge(problem, &pairs, &trace),
+        }
+        trace
+    }
+
+    fn measure(&mut self, problem: &Problem, trace: &Trace) {
+        self.runs += 1;
         self.groups = self.groups.max(trace.groups);
         self.deepest = self.deepest.max(trace.deepest);
         self.within = self.within.max(trace.expanded_within);
@@ -46,16 +62,10 @@ impl Tally {
         if share.0 * self.share.1 >= self.share.0 * share.1 {
             self.share = share;
         }
-        if let Some(cause) = trace.fault {
-            self.trouble(format!("cause of FAULT: {cause}"), problem);
-        }
-        if found != twin_found {
-            self.trouble("source and twin part".into(), problem);
-        }
-        let pairs = match found {
-            Err(stop) => return self.trouble(format!("stop: {stop}"), problem),
-            Ok(pairs) => pairs,
-        };
+    }
+
+    /// Holds an answer against the certificate and, for few nodes, against brute force.
+    fn judge(&mut self, problem: &Problem, pairs: &Pairs, trace: &Trace) {
         let refused = certificate::refused(problem, &trace.mates, &trace.duals, &trace.parents);
         if let Some(condition) = refused {
             self.trouble(format!("certificate refused: {condition}"), problem);
@@ -67,7 +77,7 @@ impl Tally {
         if problem.nodes <= brute::MOST_NODES {
             self.second_opinions += 1;
             let count = if problem.flag { pairs.len() } else { 0 };
-            if (count, problem.weight_of(&pairs)) != brute::best(problem) {
+            if (count, problem.weight_of(pairs)) != brute::best(problem) {
                 self.trouble("not the best matching".into(), problem);
             }
         }
@@ -124,6 +134,9 @@ const CLIMBS: [(Size, usize, usize); 3] = [
     ((40, 64), 6, 600),
 ];
 
+/// A run of a problem that is noted.
+type Run<'a> = &'a mut dyn FnMut(&Problem) -> Trace;
+
 /// Runs all makers and prints the table of them, then that of the branches; whether all is sound.
 pub fn report() -> bool {
     let mut coverage = Coverage::default();
@@ -131,7 +144,7 @@ pub fn report() -> bool {
     println!("| maker | seed | runs | by brute force | troubles | largest share of the budget | groups | deepest | expanded within | at close | re-rooted | queue/n | moves/n |");
     println!("|---|---|---|---|---|---|---|---|---|---|---|---|---|");
     let mut seed = 0;
-    let mut maker = |name: String, runs: &mut dyn FnMut(&mut Random, &mut dyn FnMut(&Problem))| {
+    let mut maker = |name: String, runs: &mut dyn FnMut(&mut Random, Run)| {
         let mut tally = Tally::default();
         seed += 1;
         runs(&mut Random::new(seed), &mut |problem| tally.run(problem, &mut coverage));
@@ -173,7 +186,7 @@ fn climb_all(
     goal: Goal,
     (size, count, tries): (Size, usize, usize),
     random: &mut Random,
-    run: &mut dyn FnMut(&Problem),
+    run: Run,
 ) {
     for _ in 0..count {
         climb::climb(goal, size, tries, random, &mut *run);

@@ -57,10 +57,10 @@ fitChildren n kids = isOdd (length kids) && leb 3 (length kids) && leb (length k
 unfoldable pub adopt : (new : ℕ) → ℕ → State → Run State
 adopt new c s = putParent c new s
 
--- the new group's ring of children and their ends, its parent and its base
+-- the new group's ring of children and their ends, its parent and its base; only a group has a ring
 unfoldable pub ringUp : Graph → (new base : ℕ) → (kids ends : List ℕ) → State → Run State
 ringUp G new base kids ends s = do
-  _ ← must (fitChildren (G .nodes) kids)
+  _ ← must (fitChildren (G .nodes) kids && leb (G .nodes) new)
   s ← putBase new base s
   s ← putParent new missing s
   s ← forEach (adopt new) kids s
@@ -100,10 +100,13 @@ insertLink G duals j e (x ∷ xs) =
     let later = insertLink G duals j e xs >>= λ ys. ok (x ∷ ys) in
     if eqb (x .toward) j then here else later
 
+-- each link leads to another outermost group, so there are no more than nodes
 unfoldable pub considerTo : Graph → State → (j e : ℕ) → List Link → Run (List Link)
 considerTo G s j e links = do
   l ← at (s .labelling .labels) j
-  onlyIf (eqb l 1) (insertLink G (s .pairing .duals) j e) links
+  links ← onlyIf (eqb l 1) (insertLink G (s .pairing .duals) j e) links
+  _ ← must (leb (length links) (G .nodes))
+  ok links
 
 -- an edge of a child, taken so that it leaves the new group, if it does
 unfoldable pub consider : Graph → State → (new : ℕ) → ℕ → List Link → Run (List Link)
