@@ -70,8 +70,10 @@ impl Tally {
         if let Some(condition) = refused {
             self.trouble(format!("certificate refused: {condition}"), problem);
         }
-        let paired = trace.mates.iter().filter(|&&mate| mate != MISSING).count();
-        if paired != 2 * pairs.len() {
+        let mated = |node: &usize| trace.mates[*node] != MISSING;
+        let pair = |node: usize| (node, problem.node_at(usize::from(trace.mates[node])));
+        let mates = (0..problem.nodes).filter(mated).map(pair);
+        if mates.filter(|(low, high)| low < high).ne(pairs.iter().copied()) {
             self.trouble("pairs and mates part".into(), problem);
         }
         if problem.nodes <= brute::MOST_NODES {

@@ -4,7 +4,7 @@ use mathlib.Core.Bool.{Bool}
 use mathlib.Core.Logic.{_≢_}
 use mathlib.Core.List.{List, [], _∷_}
 use Prim.Native.Nat.{ℕ, _+_, _*_, _-_, _/_, _%_, _<_}
-use lib.Dec.{eqb}
+use lib.Dec.{eqb, leb}
 use lib.IntN.{ℤ, pos}
 use lib.ListN.{length, getD}
 use Rattle.laws.specs.Lists.{range}
@@ -60,6 +60,10 @@ missing = 65535
 
 abbrev pub isMissing : ℕ → Bool
 isMissing x = eqb x missing
+
+-- number x is a group's, where there are n nodes
+abbrev pub isGroup : (n x : ℕ) → Bool
+isGroup n x = leb n x
 
 abbrev pub isOdd : ℕ → Bool
 isOdd x = eqb (x % 2) 1

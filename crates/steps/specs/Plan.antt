@@ -6,7 +6,7 @@ use Prim.Native.Nat.{ℕ, zero, suc, _*_, _-_}
 use lib.IntN.{ℤ, pos}
 use lib.ListN.{replicate}
 use Rattle.laws.specs.Run.{Run, ok, fault, if_then_else_}
-use Rattle.matching.specs.Graph.{Graph, graphOf, Edge, missing}
+use Rattle.matching.specs.Graph.{Graph, graphOf, Edge, missing, isGroup}
 use Rattle.matching.specs.Certificate.{Certificate}
 use Rattle.matching.specs.Tests.{Verdict, YES, NO, verdict}
 use Rattle.steps.specs.State.{State, Phase, opening, searching, closing, ended, start}
@@ -49,12 +49,16 @@ abbrev pub onward : (count : ℕ) → (State → Ending) → Run State → Endin
 onward count rest (ok s) = rest s
 onward count rest fault = broken count
 
--- `left` steps of the budget are left, and `count` were completed
-unfoldable pub run : Graph → (flag : Bool) → (left count : ℕ) → State → Ending
-run G flag zero count s = if isEnded (s .progress .phase) then finished count s else spent count
-run G flag (suc left) count s =
-    let next = onward count (λ s. run G flag left (suc count) s) (step G flag s) in
+-- `left` steps of the budget are left, and `count` were completed; `turns` is that of Augment
+unfoldable pub runBy : (turns : (n c : ℕ) → Bool) → Graph → (flag : Bool) → (left count : ℕ) → State → Ending
+runBy turns G flag zero count s = if isEnded (s .progress .phase) then finished count s else spent count
+runBy turns G flag (suc left) count s =
+    let next = onward count (λ s. runBy turns G flag left (suc count) s) (step turns G flag s) in
     if isEnded (s .progress .phase) then finished count s else next
+
+-- a child that is a group is re-rooted
+unfoldable pub run : Graph → (flag : Bool) → (left count : ℕ) → State → Ending
+run G flag left count s = runBy isGroup G flag left count s
 
 -- ---- the result
 

@@ -51,12 +51,6 @@ openStage G s = do
 
 -- ---- taking a node
 
--- the edge between two label-1 groups closes a ring or ends a path
-unfoldable pub join : Graph → (v w e : ℕ) → State → Run State
-join G v w e s = do
-  base ← scan G v w s
-  if isMissing base then (augmentMatching G e s >>= λ s. ok (withPhase closing s)) else addGroup G base e s
-
 -- a node of a label-2 group is reached for the first time
 unfoldable pub reach : (w p : ℕ) → State → Run State
 reach w p s = do
@@ -65,12 +59,6 @@ reach w p s = do
   _ ← must (eqb l 2)
   s ← putLabel w 2 s
   putLabelEnd w (beside p) s
-
--- the edge is allowed: l is the label of w's outermost group, lw that of w
-unfoldable pub useEdge : Graph → (v w p l lw : ℕ) → State → Run State
-useEdge G v w p l lw s =
-    if eqb l 0 then label2 G w (beside p) s
-    else if eqb l 1 then join G v w (p / 2) s else onlyIf (eqb lw 0) (reach w p) s
 
 -- the edge e of slack k is the best one yet at i
 unfoldable pub keepBest : Graph → (i e : ℕ) → ℤ → State → Run State
@@ -83,49 +71,63 @@ unfoldable pub keepEdge : Graph → (v w e l lw : ℕ) → ℤ → State → Run
 keepEdge G v w e l lw k s =
     if eqb l 1 then (at (s .forest .tops) v >>= λ b. keepBest G b e k s) else onlyIf (eqb lw 0) (keepBest G w e k) s
 
--- what is found of an edge: whether it is allowed, and else its slack
-unfoldable pub passEdge : Graph → (v w p : ℕ) → State → Run State
-passEdge G v w p s = do
-  let e = p / 2
-  a ← at (s .labelling .allowed) e
-  k ← if a then ok (pos 0) else slackOf G (s .pairing .duals) e
-  s ← onlyIf (not a && leZ k (pos 0)) (putAllowed e true) s
-  now ← at (s .labelling .allowed) e
-  t ← at (s .forest .tops) w
-  l ← at (s .labelling .labels) t
-  lw ← at (s .labelling .labels) w
-  if now then useEdge G v w p l lw s else keepEdge G v w e l lw k s
-
--- the neighbour at end p; an edge within one group is passed over
-unfoldable pub visit : Graph → (v p : ℕ) → State → Run State
-visit G v p s = do
-  w ← endpoint G p
-  bv ← at (s .forest .tops) v
-  bw ← at (s .forest .tops) w
-  onlyIf (not (eqb bv bw)) (passEdge G v w p) s
-
 abbrev pub isClosing : Phase → Bool
 isClosing opening = false
 isClosing searching = false
 isClosing closing = true
 isClosing ended = false
 
--- the neighbours in order, until they end or the matching is augmented
-unfoldable pub visitAll : Graph → ℕ → List ℕ → State → Run State
-visitAll G v [] s = ok s
-visitAll G v (p ∷ ps) s = do
-  s ← visit G v p s
-  let later = visitAll G v ps s
-  if isClosing (s .progress .phase) then ok s else later
+-- `turns` is that of Augment
+module _ (turns : (n c : ℕ) → Bool) where
+  -- the edge between two label-1 groups closes a ring or ends a path
+  unfoldable pub join : Graph → (v w e : ℕ) → State → Run State
+  join G v w e s = do
+    base ← scan G v w s
+    if isMissing base then (augmentMatching turns G e s >>= λ s. ok (withPhase closing s)) else addGroup G base e s
 
-unfoldable pub takeNode : Graph → State → Run State
-takeNode G s = do
-  q ← pop (s .labelling .queue)
-  let s = withQueue (q .rest) s
-  t ← at (s .forest .tops) (q .last)
-  l ← at (s .labelling .labels) t
-  _ ← must (eqb l 1)
-  visitAll G (q .last) (farEnds G (q .last)) s
+  -- the edge is allowed: l is the label of w's outermost group, lw that of w
+  unfoldable pub useEdge : Graph → (v w p l lw : ℕ) → State → Run State
+  useEdge G v w p l lw s =
+      if eqb l 0 then label2 G w (beside p) s
+      else if eqb l 1 then join G v w (p / 2) s else onlyIf (eqb lw 0) (reach w p) s
+
+  -- what is found of an edge: whether it is allowed, and else its slack
+  unfoldable pub passEdge : Graph → (v w p : ℕ) → State → Run State
+  passEdge G v w p s = do
+    let e = p / 2
+    a ← at (s .labelling .allowed) e
+    k ← if a then ok (pos 0) else slackOf G (s .pairing .duals) e
+    s ← onlyIf (not a && leZ k (pos 0)) (putAllowed e true) s
+    now ← at (s .labelling .allowed) e
+    t ← at (s .forest .tops) w
+    l ← at (s .labelling .labels) t
+    lw ← at (s .labelling .labels) w
+    if now then useEdge G v w p l lw s else keepEdge G v w e l lw k s
+
+  -- the neighbour at end p; an edge within one group is passed over
+  unfoldable pub visit : Graph → (v p : ℕ) → State → Run State
+  visit G v p s = do
+    w ← endpoint G p
+    bv ← at (s .forest .tops) v
+    bw ← at (s .forest .tops) w
+    onlyIf (not (eqb bv bw)) (passEdge G v w p) s
+
+  -- the neighbours in order, until they end or the matching is augmented
+  unfoldable pub visitAll : Graph → ℕ → List ℕ → State → Run State
+  visitAll G v [] s = ok s
+  visitAll G v (p ∷ ps) s = do
+    s ← visit G v p s
+    let later = visitAll G v ps s
+    if isClosing (s .progress .phase) then ok s else later
+
+  unfoldable pub takeNode : Graph → State → Run State
+  takeNode G s = do
+    q ← pop (s .labelling .queue)
+    let s = withQueue (q .rest) s
+    t ← at (s .forest .tops) (q .last)
+    l ← at (s .labelling .labels) t
+    _ ← must (eqb l 1)
+    visitAll G (q .last) (farEnds G (q .last)) s
 
 -- ---- closing a stage
 
@@ -146,15 +148,16 @@ closeStage G s = do
 
 -- ---- the next step
 
-unfoldable pub takeOrAdjust : Graph → (flag : Bool) → (queue : List ℕ) → State → Run State
-takeOrAdjust G flag [] s = adjustDuals G flag s
-takeOrAdjust G flag (v ∷ vs) s = takeNode G s
+module _ (turns : (n c : ℕ) → Bool) where
+  unfoldable pub takeOrAdjust : Graph → (flag : Bool) → (queue : List ℕ) → State → Run State
+  takeOrAdjust G flag [] s = adjustDuals G flag s
+  takeOrAdjust G flag (v ∷ vs) s = takeNode turns G s
 
-unfoldable pub stepAt : Graph → (flag : Bool) → Phase → State → Run State
-stepAt G flag opening s = openStage G s
-stepAt G flag searching s = takeOrAdjust G flag (s .labelling .queue) s
-stepAt G flag closing s = closeStage G s
-stepAt G flag ended s = ok s
+  unfoldable pub stepAt : Graph → (flag : Bool) → Phase → State → Run State
+  stepAt G flag opening s = openStage G s
+  stepAt G flag searching s = takeOrAdjust G flag (s .labelling .queue) s
+  stepAt G flag closing s = closeStage G s
+  stepAt G flag ended s = ok s
 
-unfoldable pub step : Graph → (flag : Bool) → State → Run State
-step G flag s = stepAt G flag (s .progress .phase) s
+  unfoldable pub step : Graph → (flag : Bool) → State → Run State
+  step G flag s = stepAt G flag (s .progress .phase) s
