@@ -2,10 +2,10 @@
 
 use crate::swap;
 
-/// A mistake: what is wrong, and the text that is put in place of text standing there once.
-type Mistake = (&'static str, &'static [(&'static str, &'static str)]);
+/// A change: what it does, and the texts that are put in place of texts standing there once.
+type Change = (&'static str, &'static [(&'static str, &'static str)]);
 
-const MISTAKES: [Mistake; 26] = [
+const MISTAKES: [Change; 30] = [
     (
         "queue first in first out",
         &[("let v = queue.pop().unwrap();", "let v = queue.remove(0);")],
@@ -64,12 +64,6 @@ const MISTAKES: [Mistake; 26] = [
         &[("if tmp >= num_nodes {", "if false {")],
     ),
     (
-        "scanning walks one path to its end before the other",
-        &[
-            ("        if w.is_some() {\n", "        if v.is_none() {\n"),
-        ],
-    ),
-    (
         "nodes of a group listed from the last child",
         &[("for c in child_blossom {", "for c in child_blossom.iter().rev() {")],
     ),
@@ -98,10 +92,6 @@ const MISTAKES: [Mistake; 26] = [
     (
         "groups of any label are expanded at the close of a stage",
         &[("                && labels[blossom] == Some(1)\n                && dual_var[blossom] == 0\n", "                && dual_var[blossom] == 0\n")],
-    ),
-    (
-        "expansion within a stage does not allow the edges it walks",
-        &[("            allowed_edge[p / 2] = true;\n", "")],
     ),
     (
         "expansion within a stage takes the first node, reached or not",
@@ -154,19 +144,91 @@ const MISTAKES: [Mistake; 26] = [
             "let mut max_weight: i128 = i128::MIN;",
         )],
     ),
+    (
+        "a new group's joining edge is noted by its other end",
+        &[(
+            "blossom_endpoints[blossom].push(2 * edge);",
+            "blossom_endpoints[blossom].push(2 * edge + 1);",
+        )],
+    ),
+    (
+        "a child's own list of candidate edges is not used",
+        &[("if blossom_best_edges[bv].is_empty() {", "if true {")],
+    ),
+    (
+        "lists of candidate edges outlive their stage",
+        &[(
+            "blossom_best_edges.splice(num_nodes.., (0..num_nodes).map(|_| Vec::new()));",
+            "",
+        )],
+    ),
+    (
+        "a stage gives its first labels from the last node down",
+        &[(
+            "for v in 0..num_nodes {\n            if mate",
+            "for v in (0..num_nodes).rev() {\n            if mate",
+        )],
+    ),
+    (
+        "neighbours gone through from the last",
+        &[(
+            "for p in &neighbor_endpoints[v] {",
+            "for p in neighbor_endpoints[v].iter().rev() {",
+        )],
+    ),
+    (
+        "groups expanded at the close of a stage from the last down",
+        &[(
+            "for blossom in num_nodes..2 * num_nodes {\n            if blossom_parents",
+            "for blossom in (num_nodes..2 * num_nodes).rev() {\n            if blossom_parents",
+        )],
+    ),
 ];
 
-/// Every copy as a module of its own, and the table of them, as Rust text.
+/// Changes that change no answer: the base is the same whichever path is walked first, edges without slack
+/// are allowed when they are met, and group n is never taken, since n groups never stand at once.
+const HARMLESS: [Change; 3] = [
+    (
+        "scanning walks one path to its end before the other",
+        &[
+            ("        if w.is_some() {\n", "        if v.is_none() {\n"),
+        ],
+    ),
+    (
+        "expansion within a stage does not allow the edges it walks",
+        &[("            allowed_edge[p / 2] = true;\n", "")],
+    ),
+    (
+        "re-rooting goes into group n too",
+        &[
+            (
+                "if tmp > num_nodes {\n            augment_blossom(\n                tmp,\n                endpoints[p],",
+                "if tmp >= num_nodes {\n            augment_blossom(\n                tmp,\n                endpoints[p],",
+            ),
+            (
+                "if tmp > num_nodes {\n            augment_blossom(\n                tmp,\n                endpoints[p ^ 1],",
+                "if tmp >= num_nodes {\n            augment_blossom(\n                tmp,\n                endpoints[p ^ 1],",
+            ),
+        ],
+    ),
+];
+
+/// Every copy as a module of its own, and the two tables of them, as Rust text.
 pub fn copies(marked: &str) -> String {
+    tables("PLANTED", &MISTAKES, marked) + &tables("HARMLESS", &HARMLESS, marked)
+}
+
+fn tables(name: &str, changes: &[Change], marked: &str) -> String {
     let mut out = String::new();
-    let mut table = String::from("pub const PLANTED: &[(&str, Runner)] = &[\n");
-    for (number, (name, edits)) in MISTAKES.iter().enumerate() {
+    let mut table = format!("pub const {name}: &[(&str, Runner)] = &[\n");
+    for (number, (what, edits)) in changes.iter().enumerate() {
         let mut text = marked.to_string();
         for (old, new) in *edits {
             text = swap(&text, old, new, 1);
         }
-        out += &format!("mod planted_{number} {{\n{text}}}\n");
-        table += &format!("({name:?}, runner!(planted_{number})),\n");
+        let module = format!("{}_{number}", name.to_lowercase());
+        out += &format!("mod {module} {{\n{text}}}\n");
+        table += &format!("({what:?}, runner!({module})),\n");
     }
     out + &table + "];\n"
 }

@@ -17,8 +17,8 @@ const POOL: usize = 40;
 /// How many graphs on few nodes are kept.
 const FEW: usize = 400;
 /// Climbs for each goal.
-const CLIMBS: usize = 160;
-const CLIMB_TRIES: usize = 400;
+const CLIMBS: usize = 220;
+const CLIMB_TRIES: usize = 600;
 /// Large problems of each shape.
 const LARGE_MADE: usize = 3;
 

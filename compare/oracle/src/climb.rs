@@ -10,9 +10,10 @@ pub enum Goal {
     Groups,
     Depth,
     Expansions,
+    Branches,
 }
 
-pub const GOALS: [Goal; 3] = [Goal::Groups, Goal::Depth, Goal::Expansions];
+pub const GOALS: [Goal; 4] = [Goal::Groups, Goal::Depth, Goal::Expansions, Goal::Branches];
 
 fn score(goal: Goal, trace: &Trace) -> [usize; 3] {
     let (groups, depth, within) = (trace.groups, trace.deepest, trace.expanded_within);
@@ -20,6 +21,10 @@ fn score(goal: Goal, trace: &Trace) -> [usize; 3] {
         Goal::Groups => [groups, within, depth],
         Goal::Depth => [depth, groups, within],
         Goal::Expansions => [within, depth, groups],
+        Goal::Branches => {
+            let taken = trace.branches.iter().flatten().filter(|&&times| times > 0);
+            [taken.count(), trace.rerooted, within]
+        }
     }
 }
 

@@ -15,7 +15,42 @@ include!(concat!(env!("OUT_DIR"), "/branches.rs"));
 /// A branch that no run can take: line, text, outcome, and why.
 type Never = (usize, &'static str, bool, &'static str);
 
-const NEVER: &[Never] = &[];
+const NEVER: [Never; 9] = [
+    (93, "t == 2", false, "the labels given are 1 and 2"),
+    (
+        136,
+        "w.is_some()",
+        true,
+        "asked where v is none, and a move leaves v none only if w is none too",
+    ),
+    (
+        139,
+        "labels[blossom].is_none()",
+        true,
+        "only a freed group's label is none, and no node lies in a freed group",
+    ),
+    (
+        369,
+        "labels[blossom] == Some(2)",
+        false,
+        "within a stage only label-2 groups are expanded (type 4)",
+    ),
+    (448, "j < 0", true, "j is 0 where the walk to the base has ended"),
+    (
+        1028,
+        "labels[in_blossoms[v]] == Some(0)",
+        false,
+        "a group holds at most one unmatched node, so no other gave it a label",
+    ),
+    (1298, "delta_type == 4", false, "the type is 1, 2, 3 or 4"),
+    (1356, "verify_optimum_flag", true, "the source's own check is off"),
+    (
+        1385,
+        "!seen.contains(&rev_tmp)",
+        false,
+        "both turns of a pair are put in together",
+    ),
+];
 
 /// How often each place came out false, and true or entered.
 pub struct Coverage(Vec<[u64; 2]>);

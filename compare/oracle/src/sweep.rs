@@ -127,12 +127,12 @@ const EVERY: [(usize, &[i64]); 5] = [
 ];
 
 /// Runs of each shape, kind of weights and flag: node counts and how many.
-const MADE: [(Size, usize); 3] = [(SMALL, 8_000), (MEDIUM, 2_500), (LARGE, 200)];
+const MADE: [(Size, usize); 3] = [(SMALL, 8_000), (MEDIUM, 2_500), (LARGE, 400)];
 
 /// Climbs for each goal: node counts, how many, and tries of each.
 const CLIMBS: [(Size, usize, usize); 3] = [
-    ((6, 14), 150, 2_000),
-    ((15, 30), 40, 1_500),
+    ((6, 14), 60, 2_000),
+    ((15, 30), 25, 1_500),
     ((40, 64), 6, 600),
 ];
 

@@ -1,0 +1,39 @@
+-- What the code's answers stand for: a number read is `ok`, Out a fault; a store that was done gives the list.
+use mathlib.Core.Bool.{Bool}
+use mathlib.Core.List.{List}
+use Prim.Native.Nat.{ℕ}
+use Rattle.laws.specs.Run.{Run, ok, fault, if_then_else_}
+use Rattle.numbers.specs.declared.Got.{Got}
+use Rattle.numbers.specs.declared.Got.the-variants as number
+use Rattle.numbers.specs.declared.GotNode.{GotNode}
+use Rattle.numbers.specs.declared.GotNode.the-variants as node
+use Rattle.numbers.specs.declared.GotEdge.{GotEdge}
+use Rattle.numbers.specs.declared.GotEdge.the-variants as edge
+use Rattle.numbers.specs.declared.GotEnd.{GotEnd}
+use Rattle.numbers.specs.declared.GotEnd.the-variants as end
+use Rattle.numbers.specs.declared.GotGroup.{GotGroup}
+use Rattle.numbers.specs.declared.GotGroup.the-variants as group
+
+abbrev pub gotOf : Got → Run ℕ
+gotOf (number.At x) = ok x
+gotOf number.Out = fault
+
+abbrev pub gotNode : GotNode → Run ℕ
+gotNode (node.At v) = ok (v .0)
+gotNode node.Out = fault
+
+abbrev pub gotEdge : GotEdge → Run ℕ
+gotEdge (edge.At e) = ok (e .0)
+gotEdge edge.Out = fault
+
+abbrev pub gotEnd : GotEnd → Run ℕ
+gotEnd (end.At p) = ok (p .0)
+gotEnd end.Out = fault
+
+abbrev pub gotGroup : GotGroup → Run ℕ
+gotGroup (group.At b) = ok (b .0)
+gotGroup group.Out = fault
+
+-- the list after a store that was done, or a fault
+abbrev pub stored : {A : Type 0} → Bool → A → Run A
+stored done a = if done then ok a else fault
