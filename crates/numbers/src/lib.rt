@@ -6,6 +6,8 @@ ghost use Rattle.laws.specs.Run.{at, put};
 ghost use Rattle.matching.specs.Graph.{beside as besideOf, isMissing};
 ghost use Rattle.numbers.specs.View.{gotOf, gotNode, gotEdge, gotEnd, gotGroup, stored};
 
+pub mod pools;
+
 pub const MISSING: u16 = 65535;
 
 pub struct Node(pub u16);
