@@ -121,7 +121,10 @@ fn ask(condition: &str, mark: &mut impl FnMut(&str) -> String) -> String {
             return asked.join(joint);
         }
     }
-    match condition.strip_prefix('(').and_then(|rest| rest.strip_suffix(')')) {
+    match condition
+        .strip_prefix('(')
+        .and_then(|rest| rest.strip_suffix(')'))
+    {
         Some(inner) => format!("({})", ask(inner, mark)),
         None => mark(condition),
     }

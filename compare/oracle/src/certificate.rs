@@ -4,7 +4,12 @@ use crate::problem::{Problem, MISSING};
 
 /// The number of the first condition that fails, if one does.
 pub fn refused(problem: &Problem, mates: &[u16], duals: &[i64], parents: &[u16]) -> Option<u32> {
-    let certificate = Certificate { problem, mates, duals, parents };
+    let certificate = Certificate {
+        problem,
+        mates,
+        duals,
+        parents,
+    };
     let conditions: [(u32, &dyn Fn() -> bool); 7] = [
         (11, &|| certificate.mate()),
         (12, &|| certificate.parent()),
@@ -38,16 +43,19 @@ impl Certificate<'_> {
 
     fn parent(&self) -> bool {
         let nodes = self.problem.nodes;
-        let is_group = |&parent: &u16| {
-            parent == MISSING || (nodes..2 * nodes).contains(&(parent as usize))
-        };
+        let is_group =
+            |&parent: &u16| parent == MISSING || (nodes..2 * nodes).contains(&(parent as usize));
         self.parents.iter().all(is_group)
             && (0..2 * nodes).all(|number| self.above(number).count() <= nodes)
     }
 
     fn dual(&self) -> bool {
         let within = |dual: &i64| dual.abs() <= 1 << 52;
-        let signed = if self.problem.flag { self.problem.nodes } else { 0 };
+        let signed = if self.problem.flag {
+            self.problem.nodes
+        } else {
+            0
+        };
         self.duals.iter().all(within) && self.duals[signed..].iter().all(|&dual| dual >= 0)
     }
 
@@ -62,7 +70,11 @@ impl Certificate<'_> {
     fn free(&self) -> bool {
         let nodes = self.problem.nodes;
         let least = self.duals[..nodes].iter().min().map_or(0, |&dual| dual);
-        let offset = if self.problem.flag { (-least).max(0) } else { 0 };
+        let offset = if self.problem.flag {
+            (-least).max(0)
+        } else {
+            0
+        };
         (0..nodes).all(|node| self.mates[node] != MISSING || self.duals[node] + offset == 0)
     }
 
@@ -92,7 +104,9 @@ impl Certificate<'_> {
 
     fn slack(&self, edge: usize) -> i64 {
         let (first, second, weight) = self.problem.edges[edge];
-        let both = self.above(first).filter(|group| self.above(second).any(|other| other == *group));
+        let both = self
+            .above(first)
+            .filter(|group| self.above(second).any(|other| other == *group));
         let shared: i64 = both.map(|group| self.duals[group]).sum();
         self.duals[first] + self.duals[second] - 2 * weight + 2 * shared
     }

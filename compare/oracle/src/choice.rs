@@ -1,10 +1,12 @@
-//! The choice of the fixed list: the same problems every time, as different from each other as can be had.
+//! The choice of the fixed list: the same problems every time, as different from each other as can be had, and
+//! some more for the planted mistakes that few of them tell.
 
 use crate::climb::{self, GOALS};
 use crate::coverage;
 use crate::known::KNOWN;
 use crate::list::Record;
 use crate::makers::{self, Shape, Size, Weights, LARGE, SHAPES, SMALL, WEIGHTS};
+use crate::planted;
 use crate::problem::{Problem, MOST_EDGES, MOST_NODES, MOST_WEIGHT};
 use crate::random::Random;
 use crate::run;
@@ -17,10 +19,14 @@ const POOL: usize = 40;
 /// How many graphs on few nodes are kept.
 const FEW: usize = 400;
 /// Climbs for each goal.
-const CLIMBS: usize = 220;
+const CLIMBS: usize = 180;
 const CLIMB_TRIES: usize = 600;
 /// Large problems of each shape.
 const LARGE_MADE: usize = 3;
+/// How many records tell each planted mistake, at least, and the shapes and weights in which more are sought.
+const TELLING: usize = 12;
+const TELLING_SHAPES: [Shape; 3] = [Shape::Dense, Shape::Complete, Shape::Cliques];
+const TELLING_SIZE: Size = (8, 14);
 
 /// Chooses from a pool: first those whose branches no earlier problem took in the same way.
 struct Chooser {
@@ -36,7 +42,10 @@ impl Chooser {
             if self.kept.len() == before + count {
                 return;
             }
-            if self.seen.insert(coverage::signature(&run::twin(&problem).1)) {
+            if self
+                .seen
+                .insert(coverage::signature(&run::twin(&problem).1))
+            {
                 self.kept.push(problem);
             } else {
                 known.push(problem);
@@ -50,8 +59,13 @@ impl Chooser {
 /// The records of the fixed list.
 pub fn records() -> Vec<Record> {
     let mut random = Random::new(2024);
-    let mut chooser = Chooser { seen: HashSet::new(), kept: Vec::new() };
-    chooser.kept.extend(KNOWN.iter().map(|known| known.problem()));
+    let mut chooser = Chooser {
+        seen: HashSet::new(),
+        kept: Vec::new(),
+    };
+    chooser
+        .kept
+        .extend(KNOWN.iter().map(|known| known.problem()));
     chooser.choose(few_nodes(&mut random), FEW);
     for shape in SHAPES {
         for weights in WEIGHTS {
@@ -64,18 +78,49 @@ pub fn records() -> Vec<Record> {
         }
     }
     for goal in GOALS {
-        let climb = |_| climb::climb(goal, (6, 13), CLIMB_TRIES, &mut random, |problem| run::twin(problem).1);
+        let climb = |_| {
+            climb::climb(goal, (6, 13), CLIMB_TRIES, &mut random, |problem| {
+                run::twin(problem).1
+            })
+        };
         chooser.choose((0..CLIMBS).map(climb).collect(), CLIMBS);
     }
     chooser.kept.extend(large(&mut random));
-    chooser.kept.iter().map(Record::answer).collect()
+    let mut records = chooser.kept.iter().map(Record::answer).collect();
+    tell_all(&mut records, &mut random);
+    records
+}
+
+/// Adds problems until each planted mistake is told by enough.
+fn tell_all(records: &mut Vec<Record>, random: &mut Random) {
+    for &(_, runner) in planted::PLANTED {
+        let mut told = records
+            .iter()
+            .filter(|record| planted::tells(runner, record))
+            .count();
+        while told < TELLING {
+            let (shape, weights) = (random.pick(&TELLING_SHAPES), random.pick(&WEIGHTS));
+            let problem = makers::make(shape, weights, TELLING_SIZE, random.chance(50), random);
+            let record = Record::answer(&problem);
+            if planted::tells(runner, &record) {
+                records.push(record);
+                told += 1;
+            }
+        }
+    }
 }
 
 /// Graphs on up to five nodes.
 fn few_nodes(random: &mut Random) -> Vec<Problem> {
     let mut pool = Vec::new();
-    for (nodes, weights) in [(3, &[-1, 0, 1, 2][..]), (4, &[-1, 0, 2][..]), (5, &[1, 2][..])] {
-        makers::every(nodes, weights, |problem| pool.push(makers::shuffled(&problem, random)));
+    for (nodes, weights) in [
+        (3, &[-1, 0, 1, 2][..]),
+        (4, &[-1, 0, 2][..]),
+        (5, &[1, 2][..]),
+    ] {
+        makers::every(nodes, weights, |problem| {
+            pool.push(makers::shuffled(&problem, random))
+        });
     }
     random.shuffle(&mut pool);
     pool
@@ -93,11 +138,17 @@ fn large(random: &mut Random) -> Vec<Problem> {
         }
     }
     let full = (MOST_NODES as i64, MOST_NODES as i64);
-    for (weights, flag) in [(Weights::Wide, false), (Weights::Small, true), (Weights::Sloped, false)] {
+    for (weights, flag) in [
+        (Weights::Wide, false),
+        (Weights::Small, true),
+        (Weights::Sloped, false),
+    ] {
         let mut problem = makers::make(Shape::Complete, weights, full, flag, random);
         while problem.edges.len() < MOST_EDGES {
             let (first, second, _) = random.pick(&problem.edges);
-            problem.edges.push((second, first, random.between(-MOST_WEIGHT, MOST_WEIGHT)));
+            problem
+                .edges
+                .push((second, first, random.between(-MOST_WEIGHT, MOST_WEIGHT)));
         }
         out.push(problem);
     }

@@ -11,9 +11,16 @@ pub enum Goal {
     Depth,
     Expansions,
     Branches,
+    Steps,
 }
 
-pub const GOALS: [Goal; 4] = [Goal::Groups, Goal::Depth, Goal::Expansions, Goal::Branches];
+pub const GOALS: [Goal; 5] = [
+    Goal::Groups,
+    Goal::Depth,
+    Goal::Expansions,
+    Goal::Branches,
+    Goal::Steps,
+];
 
 fn score(goal: Goal, trace: &Trace) -> [usize; 3] {
     let (groups, depth, within) = (trace.groups, trace.deepest, trace.expanded_within);
@@ -25,6 +32,7 @@ fn score(goal: Goal, trace: &Trace) -> [usize; 3] {
             let taken = trace.branches.iter().flatten().filter(|&&times| times > 0);
             [taken.count(), trace.rerooted, within]
         }
+        Goal::Steps => [trace.steps() as usize, groups, within],
     }
 }
 
@@ -63,7 +71,13 @@ fn change(problem: &mut Problem, random: &mut Random) {
         }
         7..=8 => problem.edges[at].2 = problem.edges[random.below(count)].2,
         9..=10 => problem.edges.swap(at, random.below(count)),
-        11 => problem.edges[at] = (problem.edges[at].1, problem.edges[at].0, problem.edges[at].2),
+        11 => {
+            problem.edges[at] = (
+                problem.edges[at].1,
+                problem.edges[at].0,
+                problem.edges[at].2,
+            )
+        }
         12 => {
             let other = random.below(problem.nodes);
             if other != problem.edges[at].0 {
@@ -73,7 +87,9 @@ fn change(problem: &mut Problem, random: &mut Random) {
         13..=14 if count < MOST_EDGES => {
             let (first, second) = (random.below(problem.nodes), random.below(problem.nodes));
             if first != second {
-                problem.edges.insert(at, (first, second, problem.edges[at].2));
+                problem
+                    .edges
+                    .insert(at, (first, second, problem.edges[at].2));
             }
         }
         _ if count > 1 => {

@@ -35,7 +35,12 @@ const NEVER: [Never; 9] = [
         false,
         "within a stage only label-2 groups are expanded (type 4)",
     ),
-    (448, "j < 0", true, "j is 0 where the walk to the base has ended"),
+    (
+        448,
+        "j < 0",
+        true,
+        "j is 0 where the walk to the base has ended",
+    ),
     (
         1028,
         "labels[in_blossoms[v]] == Some(0)",
@@ -43,7 +48,12 @@ const NEVER: [Never; 9] = [
         "a group holds at most one unmatched node, so no other gave it a label",
     ),
     (1298, "delta_type == 4", false, "the type is 1, 2, 3 or 4"),
-    (1356, "verify_optimum_flag", true, "the source's own check is off"),
+    (
+        1356,
+        "verify_optimum_flag",
+        true,
+        "the source's own check is off",
+    ),
     (
         1385,
         "!seen.contains(&rev_tmp)",
@@ -80,13 +90,17 @@ impl Coverage {
                 if !place.is_condition && !outcome {
                     continue;
                 }
-                let reason = NEVER.iter().find(|never| {
-                    (never.0, never.1, never.2) == (place.line, place.text, outcome)
-                });
+                let reason = NEVER
+                    .iter()
+                    .find(|never| (never.0, never.1, never.2) == (place.line, place.text, outcome));
                 sound &= reason.is_some() == (count[outcome as usize] == 0);
                 why += reason.map_or("", |never| never.3);
             }
-            let missed = if place.is_condition { count[0].to_string() } else { String::new() };
+            let missed = if place.is_condition {
+                count[0].to_string()
+            } else {
+                String::new()
+            };
             let text = place.text.replace('|', "\\|");
             println!(
                 "| {} | {} | `{text}` | {} | {missed} | {why} |",
@@ -99,5 +113,9 @@ impl Coverage {
 
 /// The branches that one run takes.
 pub fn signature(trace: &Trace) -> Vec<[bool; 2]> {
-    trace.branches.iter().map(|count| count.map(|times| times > 0)).collect()
+    trace
+        .branches
+        .iter()
+        .map(|count| count.map(|times| times > 0))
+        .collect()
 }

@@ -34,6 +34,7 @@ const PLAIN: Known = Known {
 
 const P8_EDGES: &[Edge] = &[(0, 1, 5), (1, 2, 11), (2, 3, 5)];
 
+#[rustfmt::skip]
 pub const KNOWN: [Known; 16] = [
     Known { name: "P1", nodes: 0, ..PLAIN },
     Known { name: "P2", nodes: 3, node_duals: &[0, 0, 0], ..PLAIN },
@@ -186,7 +187,11 @@ pub const KNOWN: [Known; 16] = [
 
 impl Known {
     pub fn problem(&self) -> Problem {
-        Problem { nodes: self.nodes, flag: self.flag, edges: self.edges.to_vec() }
+        Problem {
+            nodes: self.nodes,
+            flag: self.flag,
+            edges: self.edges.to_vec(),
+        }
     }
 
     fn holds(&self) -> bool {
@@ -217,7 +222,11 @@ pub fn report() -> bool {
         tell(known.name, known.holds());
     }
     let refused = |flag: bool, checked: bool| {
-        let mut problem = Problem { nodes: 4, flag, edges: P8_EDGES.to_vec() };
+        let mut problem = Problem {
+            nodes: 4,
+            flag,
+            edges: P8_EDGES.to_vec(),
+        };
         let record = Record::answer(&problem);
         problem.flag = checked;
         certificate::refused(&problem, &record.mates, &record.duals, &record.parents)

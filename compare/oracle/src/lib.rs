@@ -3,6 +3,7 @@
 
 pub mod brute;
 pub mod certificate;
+#[cfg(feature = "planted")]
 pub mod choice;
 pub mod climb;
 pub mod coverage;

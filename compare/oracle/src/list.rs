@@ -69,12 +69,23 @@ impl Record {
         let edges = (0..edge_count).map(|_| edge()).collect();
         let steps = u64::from(u32::from_le_bytes(bytes.take()));
         let pair_count = bytes.byte();
-        let pairs = (0..pair_count).map(|_| (bytes.byte(), bytes.byte())).collect();
+        let pairs = (0..pair_count)
+            .map(|_| (bytes.byte(), bytes.byte()))
+            .collect();
         let mates = bytes.shorts(nodes);
-        let duals = (0..2 * nodes).map(|_| i64::from_le_bytes(bytes.take())).collect();
+        let duals = (0..2 * nodes)
+            .map(|_| i64::from_le_bytes(bytes.take()))
+            .collect();
         let parents = bytes.shorts(2 * nodes);
         let problem = Problem { nodes, flag, edges };
-        Record { problem, steps, pairs, mates, duals, parents }
+        Record {
+            problem,
+            steps,
+            pairs,
+            mates,
+            duals,
+            parents,
+        }
     }
 }
 
@@ -97,7 +108,9 @@ impl Bytes<'_> {
     }
 
     fn shorts(&mut self, count: usize) -> Vec<u16> {
-        (0..count).map(|_| u16::from_le_bytes(self.take())).collect()
+        (0..count)
+            .map(|_| u16::from_le_bytes(self.take()))
+            .collect()
     }
 }
 

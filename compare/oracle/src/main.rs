@@ -3,17 +3,18 @@
 use oracle::coverage::Coverage;
 use oracle::list::{self, Record};
 use oracle::problem::Problem;
-use oracle::{choice, known, run, sweep};
+use oracle::{known, run, sweep};
 use std::{env, fs, process};
 
 const USAGE: &str = "\
 oracle one N FLAG [A-B:W ...]   answer one problem
 oracle known                    hold the written answers against the oracle
 oracle sweep                    run all makers of problems
-oracle make FILE                make the fixed list
 oracle check FILE               answer the list anew and hold it against its answers
 oracle branches FILE            the branches of the source that the list takes
-oracle planted FILE             the planted mistakes that the list tells (built with them)";
+built with the feature `planted`:
+oracle make FILE                make the fixed list
+oracle planted FILE             the planted mistakes that the list tells";
 
 fn main() {
     let words: Vec<String> = env::args().skip(1).collect();
@@ -23,12 +24,14 @@ fn main() {
         ["one", nodes, flag, ref edges @ ..] => one(nodes, flag, edges),
         ["known"] => known::report(),
         ["sweep"] => sweep::report(),
-        ["make", file] => {
-            fs::write(file, list::write(&choice::records())).expect("the file can be written");
-            true
-        }
         ["check", file] => check(&records(file)),
         ["branches", file] => branches(&records(file)),
+        #[cfg(feature = "planted")]
+        ["make", file] => {
+            let bytes = list::write(&oracle::choice::records());
+            fs::write(file, bytes).expect("the file can be written");
+            true
+        }
         #[cfg(feature = "planted")]
         ["planted", file] => oracle::planted::report(&records(file)),
         _ => {
@@ -61,12 +64,17 @@ fn one(nodes: &str, flag: &str, edges: &[&str]) -> bool {
         Ok(pairs) => println!("pairs {pairs:?}"),
     }
     println!("steps {}", trace.steps());
-    println!("mates {:?}\nduals {:?}\nparents {:?}", trace.mates, trace.duals, trace.parents);
+    println!(
+        "mates {:?}\nduals {:?}\nparents {:?}",
+        trace.mates, trace.duals, trace.parents
+    );
     true
 }
 
 fn check(records: &[Record]) -> bool {
-    let other = records.iter().filter(|record| Record::answer(&record.problem) != **record);
+    let other = records
+        .iter()
+        .filter(|record| Record::answer(&record.problem) != **record);
     let others = other.count();
     println!("{} records, {others} answered otherwise", records.len());
     others == 0

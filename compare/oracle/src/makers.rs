@@ -56,14 +56,24 @@ pub const MEDIUM: Size = (10, 20);
 pub const LARGE: Size = (21, MOST_NODES as i64);
 
 /// A problem of this shape, with nodes renamed, edges turned and their order shuffled.
-pub fn make(shape: Shape, weights: Weights, size: Size, flag: bool, random: &mut Random) -> Problem {
+pub fn make(
+    shape: Shape,
+    weights: Weights,
+    size: Size,
+    flag: bool,
+    random: &mut Random,
+) -> Problem {
     let nodes = random.between(size.0, size.1) as usize;
     let mut edges = weigh(&joins(shape, nodes, random), weights, random);
     let mut names: Vec<usize> = (0..nodes).collect();
     random.shuffle(&mut names);
     for edge in &mut edges {
         let (first, second) = (names[edge.0], names[edge.1]);
-        (edge.0, edge.1) = if random.chance(50) { (first, second) } else { (second, first) };
+        (edge.0, edge.1) = if random.chance(50) {
+            (first, second)
+        } else {
+            (second, first)
+        };
     }
     random.shuffle(&mut edges);
     edges.truncate(MOST_EDGES);
@@ -117,7 +127,11 @@ fn two_nodes(nodes: usize, random: &mut Random) -> (usize, usize) {
 /// One odd cycle; the other nodes hang on it, and a few chords.
 fn odd_cycle(nodes: usize, random: &mut Random) -> Joins {
     let longest = (nodes - 1) / 2;
-    let around = if longest == 0 { 1 } else { 1 + 2 * (1 + random.below(longest)) };
+    let around = if longest == 0 {
+        1
+    } else {
+        1 + 2 * (1 + random.below(longest))
+    };
     let mut out: Joins = (1..around).map(|node| (node - 1, node)).collect();
     if around > 1 {
         out.push((around - 1, 0));
@@ -189,7 +203,9 @@ fn nested(nodes: usize, random: &mut Random) -> Joins {
 fn parallel(nodes: usize, random: &mut Random) -> Joins {
     let distinct = some(nodes, 200 / nodes + 5, random);
     let times = random.between(2, 5) as usize;
-    (0..times * distinct.len()).map(|_| random.pick(&distinct)).collect()
+    (0..times * distinct.len())
+        .map(|_| random.pick(&distinct))
+        .collect()
 }
 
 fn weigh(joins: &[(usize, usize)], weights: Weights, random: &mut Random) -> Vec<Edge> {
@@ -211,15 +227,16 @@ fn weigh(joins: &[(usize, usize)], weights: Weights, random: &mut Random) -> Vec
             false => random.between(-MOST_WEIGHT / 4, MOST_WEIGHT),
         },
     };
-    let weighed = |(place, &(first, second)): (usize, &(usize, usize))| {
-        (first, second, weight(place as i64))
-    };
+    let weighed =
+        |(place, &(first, second)): (usize, &(usize, usize))| (first, second, weight(place as i64));
     joins.iter().enumerate().map(weighed).collect()
 }
 
 /// Every graph on these nodes: each pair of nodes has no edge or one of these weights. Both flags.
 pub fn every(nodes: usize, weights: &[i64], mut each: impl FnMut(Problem)) {
-    let pairs: Joins = (0..nodes).flat_map(|high| (0..high).map(move |low| (low, high))).collect();
+    let pairs: Joins = (0..nodes)
+        .flat_map(|high| (0..high).map(move |low| (low, high)))
+        .collect();
     let choices = weights.len() + 1;
     for number in 0..choices.pow(pairs.len() as u32) {
         let mut rest = number;
@@ -232,7 +249,11 @@ pub fn every(nodes: usize, weights: &[i64], mut each: impl FnMut(Problem)) {
             }
         }
         for flag in [false, true] {
-            each(Problem { nodes, flag, edges: edges.clone() });
+            each(Problem {
+                nodes,
+                flag,
+                edges: edges.clone(),
+            });
         }
     }
 }

@@ -19,31 +19,65 @@ mod copies {
     include!(concat!(env!("OUT_DIR"), "/planted.rs"));
 }
 
-/// Prints, for each change, how many records tell it; whether every mistake is told, and nothing harmless.
-pub fn report(records: &[Record]) -> bool {
-    println!("| mistake | stops | other pairs | stops or anything other |");
-    println!("|---|---|---|---|");
-    let mistakes = copies::PLANTED.iter().map(|&change| told(change, records));
-    let all = mistakes.filter(|&told| told == 0).count() == 0;
-    println!("\n| harmless change | stops | other pairs | stops or anything other |");
-    println!("|---|---|---|---|");
-    let harmless = copies::HARMLESS.iter().map(|&change| told(change, records));
-    all & (harmless.sum::<usize>() == 0)
+pub use copies::PLANTED;
+
+/// Another answer than the record's.
+enum Told {
+    Nothing,
+    Stop,
+    Pairs,
+    Other,
 }
 
-/// Prints the row of a change: the records that tell it by a stop, by the pairs, and by anything.
-fn told((name, runner): (&str, Runner), records: &[Record]) -> usize {
-    let (mut stops, mut pairs, mut told) = (0, 0, 0);
-    for record in records {
-        let (found, trace) = runner(&record.problem);
-        match found {
-            Err(_) => stops += 1,
-            Ok(found) => {
-                pairs += usize::from(found != record.pairs);
-                told += usize::from(Record::new(&record.problem, found, &trace) != *record);
+fn hold(runner: Runner, record: &Record) -> Told {
+    let (found, trace) = runner(&record.problem);
+    let Ok(pairs) = found else {
+        return Told::Stop;
+    };
+    if pairs != record.pairs {
+        return Told::Pairs;
+    }
+    match Record::new(&record.problem, pairs, &trace) == *record {
+        true => Told::Nothing,
+        false => Told::Other,
+    }
+}
+
+/// Whether a record tells this change: its copy stops, or answers otherwise.
+pub fn tells(runner: Runner, record: &Record) -> bool {
+    !matches!(hold(runner, record), Told::Nothing)
+}
+
+/// Prints, for each change, how many records tell it; whether every mistake is told, and nothing harmless.
+pub fn report(records: &[Record]) -> bool {
+    let least = table("mistake", PLANTED, records).into_iter().min();
+    let most = table("harmless change", copies::HARMLESS, records)
+        .into_iter()
+        .max();
+    least > Some(0) && most == Some(0)
+}
+
+/// Prints the table of these changes; the records that tell each.
+fn table(kind: &str, changes: &[(&str, Runner)], records: &[Record]) -> Vec<usize> {
+    println!(
+        "| {kind} | a stop | other pairs | other steps, mates, duals or parents only | records |"
+    );
+    println!("|---|---|---|---|---|");
+    let mut counts = Vec::new();
+    for &(name, runner) in changes {
+        let (mut stops, mut pairs, mut others) = (0, 0, 0);
+        for record in records {
+            match hold(runner, record) {
+                Told::Nothing => {}
+                Told::Stop => stops += 1,
+                Told::Pairs => pairs += 1,
+                Told::Other => others += 1,
             }
         }
+        let all = stops + pairs + others;
+        println!("| {name} | {stops} | {pairs} | {others} | {all} |");
+        counts.push(all);
     }
-    println!("| {name} | {stops} | {pairs} | {} |", stops + told);
-    stops + told
+    println!();
+    counts
 }

@@ -28,7 +28,7 @@ impl Problem {
     /// The node at an end.
     pub fn node_at(&self, end: usize) -> usize {
         let (first, second, _) = self.edges[end / 2];
-        if end % 2 == 0 {
+        if end.is_multiple_of(2) {
             first
         } else {
             second

@@ -73,7 +73,10 @@ impl Tally {
         let mated = |node: &usize| trace.mates[*node] != MISSING;
         let pair = |node: usize| (node, problem.node_at(usize::from(trace.mates[node])));
         let mates = (0..problem.nodes).filter(mated).map(pair);
-        if mates.filter(|(low, high)| low < high).ne(pairs.iter().copied()) {
+        if mates
+            .filter(|(low, high)| low < high)
+            .ne(pairs.iter().copied())
+        {
             self.trouble("pairs and mates part".into(), problem);
         }
         if problem.nodes <= brute::MOST_NODES {
@@ -149,17 +152,22 @@ pub fn report() -> bool {
     let mut maker = |name: String, runs: &mut dyn FnMut(&mut Random, Run)| {
         let mut tally = Tally::default();
         seed += 1;
-        runs(&mut Random::new(seed), &mut |problem| tally.run(problem, &mut coverage));
+        runs(&mut Random::new(seed), &mut |problem| {
+            tally.run(problem, &mut coverage)
+        });
         tally.report(&name, seed);
         sound &= tally.troubles.is_empty();
     };
     for (nodes, weights) in EVERY {
-        maker(format!("every graph on {nodes} nodes, weights {weights:?}"), &mut |random, run| {
-            makers::every(nodes, weights, |problem| {
-                run(&problem);
-                run(&makers::shuffled(&problem, random));
-            })
-        });
+        maker(
+            format!("every graph on {nodes} nodes, weights {weights:?}"),
+            &mut |random, run| {
+                makers::every(nodes, weights, |problem| {
+                    run(&problem);
+                    run(&makers::shuffled(&problem, random));
+                })
+            },
+        );
     }
     for shape in SHAPES {
         for weights in WEIGHTS {
@@ -175,9 +183,12 @@ pub fn report() -> bool {
     for goal in GOALS {
         for climbs in CLIMBS {
             let (low, high) = climbs.0;
-            maker(format!("climbing, {goal:?}, {low} to {high} nodes"), &mut |random, run| {
-                climb_all(goal, climbs, random, run);
-            });
+            maker(
+                format!("climbing, {goal:?}, {low} to {high} nodes"),
+                &mut |random, run| {
+                    climb_all(goal, climbs, random, run);
+                },
+            );
         }
     }
     println!();

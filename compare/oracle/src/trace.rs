@@ -105,7 +105,7 @@ pub fn grouped(group: usize, children: &[usize]) {
         trace.groups += 1;
         trace.deepest = trace.deepest.max(trace.depths[group]);
         let twice = (1..children.len()).any(|at| children[..at].contains(&children[at]));
-        if twice || children.len() % 2 == 0 || children.len() < 3 {
+        if twice || children.len().is_multiple_of(2) || children.len() < 3 {
             trace.fault = Some("a new group's children");
         }
         if trace.deepest > trace.nodes {

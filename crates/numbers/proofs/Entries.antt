@@ -1,10 +1,27 @@
--- An entry of a list of numbers, in the form that a read of a slice gives.
-use mathlib.Core.Path.{_≡_}
+-- What the answers of a read and of a store tell, in the forms in which callers use them.
+use mathlib.Core.Path.{_≡_, sym, subst, _∙_}
+use mathlib.Core.Bool.{Bool, true, false}
 use mathlib.Core.List.{List}
 use Prim.Native.Nat.{ℕ, _<_}
+use lib.Dec.{T}
 use lib.ListN.{length, getD}
-use Rattle.laws.specs.Run.{ok, at}
+use Rattle.laws.specs.Run.{Run, ok, fault, andThen, at}
 use Rattle.laws.proofs.Windows.{at-in}
+use Rattle.numbers.specs.View.{Agrees}
 
 pub entry-in : (l : List ℕ) (i : ℕ) → i < length l → at l i ≡ ok (getD l i 0)
 entry-in l i h = at-in l i 0 h
+
+no-answer : {B : Type 0} → true ≡ false → B
+no-answer e = absurd (subst T e tt)
+
+-- an answer that is known
+pub agrees : {A : Type 0} {x : Run A} {a : A} → x ≡ ok a → Agrees x true a
+agrees e = record { done = λ h. e; undone = λ h. no-answer h }
+
+pub agrees-fault : {A : Type 0} {x : Run A} {a : A} → x ≡ fault → Agrees x false a
+agrees-fault e = record { done = λ h. no-answer (sym h); undone = λ h. e }
+
+-- the answer of a last call, whose lists are put where they belong
+pub agrees-last : {A B : Type 0} {x : Run A} {r : Bool} {a : A} (f : A → B) {y : Run B} → Agrees x r a → andThen x (λ a. ok (f a)) ≡ y → Agrees y r (f a)
+agrees-last f g e = record { done = λ h. sym e ∙ rw (g .done h); undone = λ h. sym e ∙ rw (g .undone h) }

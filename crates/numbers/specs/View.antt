@@ -1,8 +1,8 @@
--- What the code's answers stand for: a number read is `ok`, Out a fault; a store that was done gives the list.
-use mathlib.Core.Bool.{Bool}
-use mathlib.Core.List.{List}
+-- What the code's answers stand for: a number read is `ok`, Out a fault; a routine that answers true has changed the lists, false is a fault.
+use mathlib.Core.Path.{_≡_}
+use mathlib.Core.Bool.{Bool, true, false}
 use Prim.Native.Nat.{ℕ}
-use Rattle.laws.specs.Run.{Run, ok, fault, if_then_else_}
+use Rattle.laws.specs.Run.{Run, ok, fault}
 use Rattle.numbers.specs.declared.Got.{Got}
 use Rattle.numbers.specs.declared.Got.the-variants as number
 use Rattle.numbers.specs.declared.GotNode.{GotNode}
@@ -34,6 +34,7 @@ abbrev pub gotGroup : GotGroup → Run ℕ
 gotGroup (group.At b) = ok (b .0)
 gotGroup group.Out = fault
 
--- the list after a store that was done, or a fault
-abbrev pub stored : {A : Type 0} → Bool → A → Run A
-stored done a = if done then ok a else fault
+-- the answer r of a routine that changes lent lists agrees with the definition's run x: true, and then the lists are a; or false, and a fault
+pub record Agrees {A : Type 0} (x : Run A) (r : Bool) (a : A) : Type 0 where
+  pub done : r ≡ true → x ≡ ok a
+  pub undone : r ≡ false → x ≡ fault

@@ -4,7 +4,7 @@ ghost use mathlib.Core.Path.{_≡_};
 ghost use Prim.Native.Nat.{ℕ, _+_, _*_, _/_, _<_};
 ghost use Rattle.laws.specs.Run.{at, put};
 ghost use Rattle.matching.specs.Graph.{beside as besideOf, isMissing};
-ghost use Rattle.numbers.specs.View.{gotOf, gotNode, gotEdge, gotEnd, gotGroup, stored};
+ghost use Rattle.numbers.specs.View.{gotOf, gotNode, gotEdge, gotEnd, gotGroup, Agrees};
 
 pub mod pools;
 
@@ -197,7 +197,7 @@ pub fn group_in(list: &[u16], i: u16) -> GotGroup
 
 // Entry i of a list becomes x; false, and nothing stored, where there is no such entry.
 pub fn store(list: &mut [u16], i: u16, x: u16) -> bool
-    ensures { λ r. ⌜ stored r (now (list .exit)) ≡ put (now (list .entry)) i x ⌝ }
+    ensures { λ r. ⌜ Agrees (put (now (list .entry)) i x) r (now (list .exit)) ⌝ }
 {
     let k = i as usize;
     if k < list.len() {

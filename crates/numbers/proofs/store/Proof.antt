@@ -1,5 +1,6 @@
 use borrow.Author.Needs.{needs}
 use Rattle.laws.proofs.Windows.{put-in, put-out}
+use Rattle.numbers.proofs.Entries.{agrees, agrees-fault}
 use Rattle.numbers.proofs.store.Statement.{statement}
 use Rattle.numbers.proofs.store.Tie as tie
 use Rattle.numbers.proofs.store.Reads as reads
@@ -7,11 +8,11 @@ use Rattle.numbers.proofs.store.Lts as lts
 
 -- src/lib.rt:197:1
 returns : tie.Need-returns
-returns c = search (put-in, needs)
+returns c = agrees (search (put-in, needs))
 
 -- src/lib.rt:197:1
 returns-2 : tie.Need-returns-2
-returns-2 c = search (put-out, needs)
+returns-2 c = agrees-fault (search (put-out, needs))
 
 pub store-spec : {M : Type 1} → statement M
 store-spec =
