@@ -7,7 +7,7 @@ use crate::known::KNOWN;
 use crate::list::Record;
 use crate::makers::{self, Shape, Size, Weights, LARGE, SHAPES, SMALL, WEIGHTS};
 use crate::planted;
-use crate::problem::{Problem, MOST_EDGES, MOST_NODES, MOST_WEIGHT};
+use crate::problem::Problem;
 use crate::random::Random;
 use crate::run;
 use std::collections::HashSet;
@@ -42,10 +42,8 @@ impl Chooser {
             if self.kept.len() == before + count {
                 return;
             }
-            if self
-                .seen
-                .insert(coverage::signature(&run::twin(&problem).1))
-            {
+            let (_, trace) = run::twin(&problem);
+            if self.seen.insert(coverage::signature(&trace)) {
                 self.kept.push(problem);
             } else {
                 known.push(problem);
@@ -137,20 +135,12 @@ fn large(random: &mut Random) -> Vec<Problem> {
             }
         }
     }
-    let full = (MOST_NODES as i64, MOST_NODES as i64);
     for (weights, flag) in [
         (Weights::Wide, false),
         (Weights::Small, true),
         (Weights::Sloped, false),
     ] {
-        let mut problem = makers::make(Shape::Complete, weights, full, flag, random);
-        while problem.edges.len() < MOST_EDGES {
-            let (first, second, _) = random.pick(&problem.edges);
-            problem
-                .edges
-                .push((second, first, random.between(-MOST_WEIGHT, MOST_WEIGHT)));
-        }
-        out.push(problem);
+        out.push(makers::full(weights, flag, random));
     }
     out
 }

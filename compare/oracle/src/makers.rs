@@ -30,6 +30,7 @@ pub const SHAPES: [Shape; 10] = [
     Shape::Isolated,
 ];
 
+/// Kinds of weights. Sloped ones rise or fall along the shape, so that groups nest; wide ones reach the limits.
 #[derive(Clone, Copy, Debug, PartialEq, Eq)]
 pub enum Weights {
     Equal,
@@ -187,9 +188,8 @@ fn nested(nodes: usize, random: &mut Random) -> Joins {
     let mut built = 3;
     let ears_to = nodes - random.below(nodes / 3 + 1);
     while built + 2 <= ears_to {
-        let newest = built - 3..built;
         let (from, to) = match random.chance(60) {
-            true => (newest.end - 2, newest.end - 1),
+            true => (built - 2, built - 1),
             false => two_nodes(built, random),
         };
         out.extend([(from, built), (built, built + 1), (built + 1, to)]);
@@ -230,6 +230,18 @@ fn weigh(joins: &[(usize, usize)], weights: Weights, random: &mut Random) -> Vec
     let weighed =
         |(place, &(first, second)): (usize, &(usize, usize))| (first, second, weight(place as i64));
     joins.iter().enumerate().map(weighed).collect()
+}
+
+/// As many nodes and edges as there can be: every pair of nodes joined, and some once more.
+pub fn full(weights: Weights, flag: bool, random: &mut Random) -> Problem {
+    let size = (MOST_NODES as i64, MOST_NODES as i64);
+    let mut problem = make(Shape::Complete, weights, size, flag, random);
+    while problem.edges.len() < MOST_EDGES {
+        let (first, second, _) = random.pick(&problem.edges);
+        let weight = random.between(-MOST_WEIGHT, MOST_WEIGHT);
+        problem.edges.push((second, first, weight));
+    }
+    problem
 }
 
 /// Every graph on these nodes: each pair of nodes has no edge or one of these weights. Both flags.

@@ -5,7 +5,7 @@ use crate::problem::Problem;
 use crate::trace::{self, Trace};
 use hashbrown::HashSet;
 use petgraph::graph::UnGraph;
-use std::cell::RefCell;
+use std::cell::{Cell, RefCell};
 use std::convert::Infallible;
 use std::panic::{self, AssertUnwindSafe};
 
@@ -14,24 +14,29 @@ pub type Graph = UnGraph<(), i64>;
 pub type Found = Result<HashSet<(usize, usize)>, Infallible>;
 
 thread_local! {
+    static RUNNING: Cell<bool> = const { Cell::new(false) };
     static STOP: RefCell<String> = RefCell::default();
 }
 
-/// From now on a stop prints nothing; its message is kept for the report.
+/// From now on a stop of a run prints nothing; its message is kept for the report.
 pub fn keep_stops() {
-    panic::set_hook(Box::new(|stop| {
-        STOP.with(|kept| *kept.borrow_mut() = stop.to_string().replace('\n', " "));
+    let print = panic::take_hook();
+    panic::set_hook(Box::new(move |stop| match RUNNING.get() {
+        true => STOP.set(stop.to_string().replace('\n', " ")),
+        false => print(stop),
     }));
 }
 
 /// The pairs, lower node first and ascending, or the message of the stop.
 fn run(problem: &Problem, matching: impl FnOnce(&Graph, bool) -> Found) -> Result<Pairs, String> {
     let graph = problem.graph();
+    RUNNING.set(true);
     let found = panic::catch_unwind(AssertUnwindSafe(|| matching(&graph, problem.flag)));
+    RUNNING.set(false);
     let set = match found {
         Ok(Ok(set)) => set,
         Ok(Err(never)) => match never {},
-        Err(_) => return Err(STOP.with(|kept| kept.take())),
+        Err(_) => return Err(STOP.take()),
     };
     let turned = |(one, other): (usize, usize)| (one.min(other), one.max(other));
     let mut pairs: Pairs = set.into_iter().map(turned).collect();

@@ -129,7 +129,7 @@ const EVERY: [(usize, &[i64]); 5] = [
     (5, &[-1, 0, 1]),
 ];
 
-/// Runs of each shape, kind of weights and flag: node counts and how many.
+/// Runs of each shape and kind of weights, half of them with the flag: node counts and how many.
 const MADE: [(Size, usize); 3] = [(SMALL, 8_000), (MEDIUM, 2_500), (LARGE, 400)];
 
 /// Climbs for each goal: node counts, how many, and tries of each.
@@ -138,6 +138,9 @@ const CLIMBS: [(Size, usize, usize); 3] = [
     ((15, 30), 25, 1_500),
     ((40, 64), 6, 600),
 ];
+
+/// Runs of each kind of weights on as many nodes and edges as there can be.
+const FULL: usize = 60;
 
 /// A run of a problem that is noted.
 type Run<'a> = &'a mut dyn FnMut(&Problem) -> Trace;
@@ -191,6 +194,13 @@ pub fn report() -> bool {
             );
         }
     }
+    maker("64 nodes and 2,048 edges".into(), &mut |random, run| {
+        for weights in WEIGHTS {
+            for number in 0..FULL {
+                run(&makers::full(weights, number % 2 == 1, random));
+            }
+        }
+    });
     println!();
     sound & coverage.report()
 }

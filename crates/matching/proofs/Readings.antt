@@ -4,7 +4,7 @@
 use mathlib.Core.Path.{_≡_, refl, sym, ap, _∙_}
 use mathlib.Core.Bool.{Bool, true, false, cond}
 use mathlib.Core.Logic.{_≢_, _⊎_, inl, inr, ⊎-elim}
-use mathlib.Core.List.{List, [], _∷_}
+use mathlib.Core.List.{List, [], _∷_, map}
 use Prim.Native.Nat.{ℕ, zero, suc, _/_, _<_, _≤_, zero-le}
 use native.Mathlib.Omega.{arith}
 use lib.Dec.{T}
@@ -12,10 +12,10 @@ use lib.IntN.{ℤ, pos}
 use lib.ListN.{length, getD}
 use Rattle.laws.specs.Integers.{lesser, leastFrom, least}
 use lib.Signed.{ltZ}
-use Rattle.laws.specs.Lists.{Some, EachPair}
+use Rattle.laws.specs.Lists.{Some, EachPair, range}
 use Rattle.matching.specs.Graph.{Graph, graphOf, edgeCount, edgesFrom, firstOf, secondOf, weightOf, missing}
 use Rattle.matching.specs.Matching.{Matching}
-use Rattle.matching.specs.Certificate.{mateOf, parentOf, matched, pairs, climb, meets, contains, MateHolds}
+use Rattle.matching.specs.Certificate.{mateOf, parentOf, matched, pairs, climb, meets, contains, conditions, conditionNumber, MateHolds}
 use Rattle.laws.proofs.Lists.{each-map, some-kept}
 use Rattle.matching.proofs.Pairs.{parity, mated-even, mated-odd}
 use Rattle.laws.proofs.Decides.{Decides, said, both, either, refuted, equal}
@@ -115,3 +115,9 @@ of-slices n (x ∷ xs) (y ∷ ys) [] e p q = let no-way : ⊥ = omega arith in a
 of-slices n (x ∷ xs) (y ∷ ys) (z ∷ zs) zero p q = (ap suc (of-slices n xs ys zs 0 (omega arith) (omega arith) .0), refl, refl, refl)
 of-slices n (x ∷ xs) (y ∷ ys) (z ∷ zs) (suc e) p q =
     let r = of-slices n xs ys zs e (omega arith) (omega arith) in (ap suc (r .0), r .1, r .2, r .3)
+
+-- ---- the conditions are tested in the order of their numbers, and none is left out
+
+pub in-order : map conditionNumber conditions ≡ range 11 7
+unfolding range
+in-order = refl

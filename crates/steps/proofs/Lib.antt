@@ -1,5 +1,6 @@
 pub mod Computed
 pub mod Table
 pub mod Worked
+pub mod Boundaries
 pub mod Accepted
 pub mod Done
