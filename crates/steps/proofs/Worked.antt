@@ -89,6 +89,19 @@ w6 =
     (pos 0 ∷ pos 0 ∷ pos 0 ∷ pos 0 ∷ pos 0 ∷ pos 0 ∷ pos 0 ∷ pos 0 ∷ pos 0 ∷ pos 0 ∷ pos 0 ∷ pos 34 ∷ [])
     (missing ∷ missing ∷ missing ∷ 23 ∷ 23 ∷ 23 ∷ none 18))
 
+-- candidate edges in order of first insertion, a replaced one in its place: in another order other duals come out
+abbrev w7 : Row
+w7 =
+    plans
+    (plain 5
+    (edge 4 3 (pos 7) ∷ edge 3 0 (pos 6) ∷ edge 4 1 (pos 4) ∷ edge 3 1 (pos 12) ∷ edge 1 0 (pos 9) ∷
+    edge 2 1 (pos 12) ∷ edge 0 4 (pos 5) ∷ edge 0 2 (pos 3) ∷ edge 2 3 (pos 10) ∷ edge 4 2 (pos 4) ∷ []))
+    (done 24
+    (8 ∷ 9 ∷ 17 ∷ 16 ∷ missing ∷ [])
+    (pos 0 ∷ pos 8 ∷ pos 4 ∷ pos 4 ∷ pos 0 ∷ [])
+    (pos 0 ∷ pos 0 ∷ pos 0 ∷ pos 5 ∷ pos 1 ∷ [])
+    (8 ∷ 9 ∷ 9 ∷ 9 ∷ 8 ∷ missing ∷ missing ∷ missing ∷ missing ∷ 8 ∷ []))
+
 -- ---- certificates that decide a reading of document 01
 
 abbrev asCertificate : List ℕ → List ℤ → List ℕ → Certificate
@@ -129,7 +142,7 @@ c6 =
     (NO MATE)
 
 abbrev worked : List Row
-worked = w1 ∷ w2 ∷ w3 ∷ w4 ∷ w5 ∷ w6 ∷ c1 ∷ c2 ∷ c3 ∷ c4 ∷ c5 ∷ c6 ∷ []
+worked = w1 ∷ w2 ∷ w3 ∷ w4 ∷ w5 ∷ w6 ∷ w7 ∷ c1 ∷ c2 ∷ c3 ∷ c4 ∷ c5 ∷ c6 ∷ []
 
 by-computing : computed worked ≡ expected worked
 unfolding computed
