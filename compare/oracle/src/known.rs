@@ -5,12 +5,13 @@ use crate::certificate;
 use crate::list::Record;
 use crate::problem::{Edge, Problem, MISSING};
 
-/// Name, nodes, flag, edges, steps, node duals, group duals, mates and parents that are not missing.
+/// A problem and its answer. Group duals not named are 0, parents not named are missing, and mates are held
+/// against the answer where they are given.
 pub struct Known {
-    pub name: &'static str,
-    pub nodes: usize,
-    pub flag: bool,
-    pub edges: &'static [Edge],
+    name: &'static str,
+    nodes: usize,
+    flag: bool,
+    edges: &'static [Edge],
     steps: u64,
     pairs: &'static [(usize, usize)],
     mates: Option<&'static [u16]>,

@@ -4,11 +4,11 @@ use mathlib.Core.Path.{_≡_, refl}
 use mathlib.Core.Bool.{true, false}
 use mathlib.Core.List.{List, [], _∷_, _++_}
 use Prim.Native.Nat.{ℕ}
-use lib.IntN.{ℤ, pos}
+use lib.IntN.{ℤ, pos, negsuc}
 use Rattle.matching.specs.Graph.{edge, missing}
 use Rattle.matching.specs.Certificate.{Certificate, MATE, PARENT, DUAL, FREE, FULL}
-use Rattle.matching.specs.Tests.{NO}
-use Rattle.steps.specs.Table.{Row, results, expected, checkCall, plain, done, plans, judges, none, zeros}
+use Rattle.matching.specs.Tests.{YES, NO}
+use Rattle.steps.specs.Table.{Row, results, expected, checkCall, plain, flagged, done, plans, judges, none, zeros}
 use Rattle.steps.proofs.Computed.{computed, holds}
 
 -- a group is turned by an augmentation, and stays, with a dual above 0
@@ -102,6 +102,13 @@ w7 =
     (pos 0 ∷ pos 0 ∷ pos 0 ∷ pos 5 ∷ pos 1 ∷ [])
     (8 ∷ 9 ∷ 9 ∷ 9 ∷ 8 ∷ missing ∷ missing ∷ missing ∷ missing ∷ 8 ∷ []))
 
+-- the last stage is not closed: the group of dual 0 stays among the parents
+abbrev w8 : Row
+w8 =
+    plans
+    (flagged 3 (edge 0 2 (pos 3) ∷ edge 1 2 (pos 0) ∷ edge 1 0 (pos 1) ∷ []))
+    (done 12 (1 ∷ missing ∷ 0 ∷ []) (pos 4 ∷ negsuc 1 ∷ pos 2 ∷ []) (zeros 3) (5 ∷ 5 ∷ 5 ∷ none 3))
+
 -- ---- certificates that decide a reading of document 01
 
 abbrev asCertificate : List ℕ → List ℤ → List ℕ → Certificate
@@ -141,8 +148,16 @@ c6 =
     (asCertificate (1 ∷ 2 ∷ []) (pos 7 ∷ pos 7 ∷ zeros 2) (none 4)))
     (NO MATE)
 
+-- FREE: with no nodes the offset is 0
+abbrev c7 : Row
+c7 = judges (checkCall 0 [] true (asCertificate [] [] [])) YES
+
+-- a mate beyond the first n is not read
+abbrev c8 : Row
+c8 = judges (checkCall 1 [] false (asCertificate (missing ∷ 0 ∷ []) (zeros 3) (none 3))) YES
+
 abbrev worked : List Row
-worked = w1 ∷ w2 ∷ w3 ∷ w4 ∷ w5 ∷ w6 ∷ w7 ∷ c1 ∷ c2 ∷ c3 ∷ c4 ∷ c5 ∷ c6 ∷ []
+worked = w1 ∷ w2 ∷ w3 ∷ w4 ∷ w5 ∷ w6 ∷ w7 ∷ w8 ∷ c1 ∷ c2 ∷ c3 ∷ c4 ∷ c5 ∷ c6 ∷ c7 ∷ c8 ∷ []
 
 by-computing : computed worked ≡ expected worked
 unfolding computed
