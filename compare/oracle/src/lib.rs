@@ -19,6 +19,8 @@ pub mod run;
 pub mod sweep;
 pub mod trace;
 
+// as published: no formatter may touch it
+#[rustfmt::skip]
 #[allow(warnings)]
 #[path = "../../../docs/src/rustworkx-core/src/max_weight_matching.rs"]
 pub mod source;
