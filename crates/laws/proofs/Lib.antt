@@ -5,3 +5,6 @@ pub mod Runs
 pub mod Windows
 pub mod Rows
 pub mod Sure
+pub mod Times
+pub mod Keeping
+pub mod Flips

@@ -38,6 +38,12 @@ unfolding range
 length-range s zero = refl
 length-range s (suc c) = ap suc (length-range (suc s) c)
 
+pub getD-range : (s c i : ℕ) → i < c → getD (range s c) i 0 ≡ s + i
+unfolding range
+getD-range s zero i h = let no-way : ⊥ = omega arith in absurd no-way
+getD-range s (suc c) zero h = omega arith
+getD-range s (suc c) (suc i) h = omega (arith, getD-range (suc s) c i (omega arith))
+
 pub range-at : (P : ℕ → Type 0) (s c i : ℕ) → Each P (range s c) → s ≤ i → i < s + c → P i
 unfolding range
 range-at P s zero i h l m = let no-way : ⊥ = omega arith in absurd no-way

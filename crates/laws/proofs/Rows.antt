@@ -2,18 +2,18 @@
 use mathlib.Core.Path.{_≡_, refl, sym, ap, ap₂, _∙_}
 use mathlib.Core.Bool.{Bool, true, false, not}
 use mathlib.Core.Logic.{_≢_, ⊎-elim}
-use mathlib.Core.List.{List, _∷_, _++_, [], map}
+use mathlib.Core.List.{List, _∷_, _++_, [], map, append-assoc}
 use Prim.Native.Nat.{ℕ, zero, suc, _+_, _*_, _-_, _≤_, _<_, min}
 use native.Mathlib.Nat.{not-suc-le-zero, le-of-suc-le-suc, add-zero, mul-le-mul-right, eq-or-lt-of-le}
 use native.Mathlib.Numerals.{add-one}
 use native.Mathlib.Omega.{arith}
 use lib.Dec.{T, ltb, ltb→lt, nltb→le}
-use lib.ListN.{length, getD, set, take, drop, length-take, length-drop}
-use lib.Seq.{getD-take, getD-drop, getD-set-same, getD-set-other, drop-set-add, drop-set-lt, take-set-le, take-suc-set, set-set}
+use lib.ListN.{length, getD, set, take, drop, length-take, length-drop, length-append, replicate}
+use lib.Seq.{getD-take, getD-drop, getD-set-same, getD-set-other, drop-set-add, drop-set-lt, take-set-le, take-suc-set, set-set, take-at, take-all, take-take, drop-at, take-append-le, drop-append-le, drop-append-add}
 use Rattle.laws.specs.Lists.{range}
 use Rattle.laws.specs.Run.{ok, fault, at, put}
 use Rattle.laws.specs.Rows.{rows, places, rowOf}
-use Rattle.laws.proofs.Windows.{at-out, put-in, take-set}
+use Rattle.laws.proofs.Windows.{at-in, at-out, put-in, take-set}
 
 -- ---- rows that a function gives
 
@@ -57,6 +57,15 @@ module _ {A : Type 0} where
   pub at-rows : (f : ℕ → A) (k i : ℕ) → i < k → at (rows f k) i ≡ ok (f i)
   at-rows f k i h = at-rowsFrom f 0 k i h ∙ ap (λ (j : ℕ). ok (f j)) (at-zero i)
 
+  constant-rowsFrom : (f : ℕ → A) (v : A) (from k : ℕ) → ((j : ℕ) → f j ≡ v) → map f (range from k) ≡ replicate k v
+  unfolding range
+  constant-rowsFrom f v from zero e = refl
+  constant-rowsFrom f v from (suc k) e = ap₂ {C = List A} _∷_ (e from) (constant-rowsFrom f v (suc from) k e)
+
+  -- rows that are all the same
+  pub constant-rows : (f : ℕ → A) (v : A) (k : ℕ) → ((j : ℕ) → f j ≡ v) → rows f k ≡ replicate k v
+  constant-rows f v k e = constant-rowsFrom f v 0 k e
+
   pub at-rows-out : (f : ℕ → A) (k i : ℕ) → k ≤ i → at (rows f k) i ≡ fault
   at-rows-out f k i h = at-out (rows f k) i (rw (length-rows f k) h)
 
@@ -85,6 +94,10 @@ module _ {A : Type 0} (width : ℕ) where
       getD-take (getD counts g 0) (places width pool g) k d (omega arith)
       ∙ getD-take width (drop (g * width) pool) k d (omega arith)
       ∙ getD-drop (g * width) pool k d
+
+  pub at-rowOf : (counts : List ℕ) (pool : List A) (g k : ℕ) (d : A) → g * width + width ≤ length pool → k < min (getD counts g 0) width → at (rowOf width counts pool g) k ≡ ok (getD pool (g * width + k) d)
+  at-rowOf counts pool g k d h l =
+      at-in (rowOf width counts pool g) k d (rw (rowOf-length counts pool g h) l) ∙ ap ok (rowOf-at counts pool g k d l)
 
   -- ---- stores
 
@@ -137,3 +150,38 @@ module _ {A : Type 0} (width : ℕ) where
         take-suc-set (places width pool g) m v k,
         e,
       )
+
+  -- ---- a row rewritten whole: the pool is a, the row's entries in use, and what is after them
+
+  cut-twice : (k n : ℕ) (r c : List A) → length r ≡ min k n → take k (take n (r ++ c)) ≡ r
+  cut-twice k n r c h = go (ltb k n) (ltb→lt k n) (nltb→le k n)
+    where
+      go : (t : Bool) → (T t → k < n) → (T (not t) → n ≤ k) → take k (take n (r ++ c)) ≡ r
+      go true f g = let l : k < n = f tt in take-take k n (r ++ c) (omega arith) ∙ take-at r c k (omega arith)
+      go false f g = let l : n ≤ k = g tt in ap (take k) (take-at r c n (omega arith)) ∙ take-all k r (omega arith)
+
+  module _ (a c : List A) (g : ℕ) (e : length a ≡ g * width) where
+    pub row-whole : (counts : List ℕ) (r : List A) → length r ≡ min (getD counts g 0) width → rowOf width counts (a ++ (r ++ c)) g ≡ r
+    row-whole counts r h = rw (drop-at a (r ++ c) (g * width) e) (cut-twice (getD counts g 0) width r c h)
+
+    pub other-row : (r r′ : List A) → length r ≡ length r′ → length r ≤ width → (j : ℕ) → j ≢ g → places width (a ++ (r ++ c)) j ≡ places width (a ++ (r′ ++ c)) j
+    other-row r r′ h l j d = go (ltb j g) (ltb→lt j g) (nltb→le j g)
+      where
+        early : (z : List A) → j < g → places width (a ++ z) j ≡ take width (drop (j * width) a)
+        early z q =
+            let m : j * width + width ≤ g * width = before width j g q in
+            let k : width ≤ length (drop (j * width) a) = rw (length-drop (j * width) a) (omega arith) in
+            rw (drop-append-le (j * width) a z (omega arith)) (take-append-le width (drop (j * width) a) z k)
+
+        late : (x : List A) → length x ≡ length r → g < j → places width (a ++ (x ++ c)) j ≡ take width (drop (j * width - (g * width + length r)) c)
+        late x q m =
+            let far : g * width + width ≤ j * width = before width g j m in
+            let both : length (a ++ x) ≡ g * width + length r = length-append a x ∙ omega arith in
+            let place : j * width ≡ length (a ++ x) + (j * width - (g * width + length r)) = omega arith in
+            ap (take width) (ap (drop (j * width)) (sym (append-assoc a x c)) ∙ ap (λ (k : ℕ). drop k ((a ++ x) ++ c)) place ∙ drop-append-add (a ++ x) c (j * width - (g * width + length r)))
+
+        go : (t : Bool) → (T t → j < g) → (T (not t) → g ≤ j) → places width (a ++ (r ++ c)) j ≡ places width (a ++ (r′ ++ c)) j
+        go true f k = early (r ++ c) (f tt) ∙ sym (early (r′ ++ c) (f tt))
+        go false f k =
+            let m : g < j = ⊎-elim (λ e. absurd (d (sym e))) (λ q. q) (eq-or-lt-of-le (k tt)) in
+            late r refl m ∙ sym (late r′ (sym h) m)

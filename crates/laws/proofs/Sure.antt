@@ -2,13 +2,13 @@
 -- The forms in which what a routine keeps is said and carried through what comes after it, through loops, reads and stores.
 use mathlib.Core.Path.{_≡_, refl, subst}
 use mathlib.Core.Bool.{Bool, true, false}
-use mathlib.Core.List.{List, [], _∷_}
+use mathlib.Core.List.{List, [], _∷_, _++_}
 use Prim.Native.Nat.{ℕ, zero, suc, _+_, _≤_, _<_}
 use native.Mathlib.Nat.{not-suc-le-zero}
 use native.Mathlib.Omega.{arith}
-use lib.Dec.{T, ltb, ltb→lt}
-use lib.ListN.{length, getD, set}
-use Rattle.laws.specs.Run.{Run, ok, fault, _>>=_, if_then_else_, must, onlyIf, forEach, forRange, while, at, put}
+use lib.Dec.{T, eqb, ltb, ltb→lt}
+use lib.ListN.{length, getD, set, length-append}
+use Rattle.laws.specs.Run.{Run, ok, fault, _>>=_, if_then_else_, must, onlyIf, forEach, forRange, while, at, put, push, positionFrom}
 use Rattle.laws.proofs.Windows.{at-in, put-in}
 
 at-end : (k : ℕ) → k ≡ k + 0
@@ -108,6 +108,15 @@ module _ {A : Type 0} where
   kept-at (x ∷ xs) zero d = kept (omega arith, refl)
   kept-at (x ∷ xs) (suc i) d = kept-map (λ a p. (omega (arith, p .0), p .1)) (kept-at xs i d)
 
+  -- a push leaves no more than the cap
+  pub kept-push : (cap : ℕ) (v : A) (xs : List A) → Kept (λ ys. length ys ≤ cap) (push cap v xs)
+  unfolding push
+  kept-push cap v xs = go (ltb (length xs) cap) (ltb→lt (length xs) cap)
+    where
+      go : (t : Bool) → (T t → length xs < cap) → Kept (λ ys. length ys ≤ cap) (if t then ok (xs ++ (v ∷ [])) else fault)
+      go true f = kept {a = xs ++ (v ∷ [])} (rw (length-append xs (v ∷ [])) (omega (arith, f tt)))
+      go false f = torn
+
   pub kept-put : (xs : List A) (i : ℕ) (v : A) → Kept (λ ys. (i < length xs) × (ys ≡ set xs i v)) (put xs i v)
   unfolding put
   kept-put xs i v = go (ltb i (length xs)) (ltb→lt i (length xs))
@@ -121,7 +130,21 @@ pub kept-must : (b : Bool) → Kept (λ u. T b) (must b)
 kept-must true = kept tt
 kept-must false = torn
 
+-- a place that is found is one of the list
+pub kept-position : (i x : ℕ) (ys : List ℕ) → Kept (λ j. j < i + length ys) (positionFrom i x ys)
+unfolding positionFrom
+kept-position i x [] = torn
+kept-position i x (y ∷ ys) = go (eqb y x) (kept-map (λ j h. omega (arith, h)) (kept-position (suc i) x ys))
+  where
+    go : (t : Bool) → Kept (λ j. j < i + suc (length ys)) (positionFrom (suc i) x ys) → Kept (λ j. j < i + suc (length ys)) (if t then ok i else positionFrom (suc i) x ys)
+    go true later = kept {a = i} (omega arith)
+    go false later = later
+
 module _ {S : Type 0} where
+  pub kept-if : {P : S → Type 0} (b : Bool) {x y : Run S} → Kept P x → Kept P y → Kept P (if b then x else y)
+  kept-if true p q = p
+  kept-if false p q = q
+
   pub kept-onlyIf : {P : S → Type 0} (b : Bool) (f : S → Run S) (s : S) → (T b → Kept P (f s)) → P s → Kept P (onlyIf b f s)
   kept-onlyIf true f s h p = h tt
   kept-onlyIf false f s h p = kept p

@@ -1,14 +1,17 @@
 -- Reads and stores of a list, and of a window: the first k entries of a list with room for more, as an array holds a list.
 use mathlib.Core.Path.{_≡_, refl, sym, ap, _∙_}
-use mathlib.Core.List.{List, [], _∷_, _++_}
-use Prim.Native.Nat.{ℕ, zero, suc, _+_, _≤_, _<_}
-use native.Mathlib.Nat.{le-of-suc-le-suc, not-suc-le-zero}
+use mathlib.Core.List.{List, [], _∷_, _++_, append-nil}
+use Prim.Native.Nat.{ℕ, zero, suc, _+_, _-_, _≤_, _<_}
+use native.Mathlib.Nat.{le-of-suc-le-suc, not-suc-le-zero, zero-add, suc-add}
 use native.Mathlib.Numerals.{add-one}
 use native.Mathlib.Omega.{arith}
 use borrow.Author.Tests.{lt-ltb, le-ltb}
-use lib.ListN.{length, getD, set, take, replicate, length-take, length-replicate}
-use lib.Seq.{getD-take, take-suc-set, take-at}
-use Rattle.laws.specs.Run.{Run, ok, fault, at, put, push}
+use lib.ListN.{length, getD, set, take, replicate, length-take, length-replicate, drop, drop-of-length-le}
+use lib.Seq.{getD-take, take-suc, take-suc-set, take-at, take-all, take-append-add}
+use Rattle.laws.specs.Run.{Run, ok, fault, at, put, push, andThen}
+use mathlib.Core.Bool.{Bool, true, false, not}
+use lib.Dec.{T, ltb, ltb→lt, nltb→le}
+use Rattle.laws.proofs.Runs.{not-ok}
 
 module _ {A : Type 0} where
   -- ---- a whole list
@@ -32,6 +35,22 @@ module _ {A : Type 0} where
   pub put-out : (xs : List A) (i : ℕ) (v : A) → length xs ≤ i → put xs i v ≡ fault
   unfolding put
   put-out xs i v h = rw (le-ltb i (length xs) h)
+
+  -- a store that faults is one outside the list
+  pub put-fault : (xs : List A) (i : ℕ) (v : A) → put xs i v ≡ fault → length xs ≤ i
+  put-fault xs i v e = go (ltb i (length xs)) (ltb→lt i (length xs)) (nltb→le i (length xs))
+    where
+      go : (t : Bool) → (T t → i < length xs) → (T (not t) → length xs ≤ i) → length xs ≤ i
+      go true f g = not-ok (sym e ∙ put-in xs i v (f tt))
+      go false f g = g tt
+
+  -- a read whose answer is not used goes unnoticed before what faults where a store to that entry does
+  pub at-unused : {B : Type 0} (xs : List A) (i : ℕ) (v : A) (r : Run B) → (put xs i v ≡ fault → r ≡ fault) → andThen (at xs i) (λ _. r) ≡ r
+  at-unused xs i v r f = go (ltb i (length xs)) (ltb→lt i (length xs)) (nltb→le i (length xs))
+    where
+      go : (t : Bool) → (T t → i < length xs) → (T (not t) → length xs ≤ i) → andThen (at xs i) (λ _. r) ≡ r
+      go true h g = rw (at-in xs i v (h tt))
+      go false h g = rw (at-out xs i (g tt)) (sym (f (put-out xs i v (g tt))))
 
   -- ---- a window
 
@@ -64,6 +83,23 @@ module _ {A : Type 0} where
   pub take-fill : (k : ℕ) (v : A) (xs : List A) → take k (replicate k v ++ xs) ≡ replicate k v
   take-fill k v xs = take-at (replicate k v) xs k (length-replicate k v)
 
+  -- a part of a list that holds one entry throughout
+  pub take-replicate : (k n : ℕ) (v : A) → k ≤ n → take k (replicate n v) ≡ replicate k v
+  take-replicate zero n v h = refl
+  take-replicate (suc k) zero v h = absurd (not-suc-le-zero h)
+  take-replicate (suc k) (suc n) v h = ap {B = List A} (λ r. v ∷ r) (take-replicate k n v (le-of-suc-le-suc h))
+
+  pub drop-replicate : (k n : ℕ) (v : A) → drop k (replicate (k + n) v) ≡ replicate n v
+  drop-replicate zero n v = rw zero-add
+  drop-replicate (suc k) n v = rw (suc-add k n) (drop-replicate k n v)
+
+  -- the first k + j of a list whose first k were written anew, and which else holds one entry throughout
+  pub take-written : (new : List A) (k j n : ℕ) (v : A) → length new ≡ k → k + j ≤ n → take (k + j) (new ++ drop k (replicate n v)) ≡ new ++ replicate j v
+  take-written new k j n v e h =
+      let m : n ≡ k + (n - k) = omega arith in
+      let r : drop k (replicate n v) ≡ replicate (n - k) v = ap (λ (i : ℕ). drop k (replicate i v)) m ∙ drop-replicate k (n - k) v in
+      rw (r, ← e) (take-append-add new (replicate (n - length new) v) j ∙ ap {B = List A} (λ t. new ++ t) (take-replicate j (n - length new) v (omega arith)))
+
   -- a push onto a window
   pub push-window : (xs : List A) (cap k : ℕ) (v : A) → k < cap → k < length xs → push cap v (take k xs) ≡ ok (take (k + 1) (set xs k v))
   unfolding push
@@ -76,3 +112,28 @@ module _ {A : Type 0} where
   push-window-out xs cap k v h l =
       let e : cap ≤ length (take k xs) = rw (length-take k xs) (omega arith) in
       rw (le-ltb (length (take k xs)) cap e)
+
+  -- ---- a copy, entry by entry
+
+  pub copy-next : (from to : List A) (i : ℕ) (d : A) → i < length from → i < length to → take i to ≡ take i from → take (i + 1) (set to i (getD from i d)) ≡ take (i + 1) from
+  copy-next from to i d h l e = rw (add-one, take-suc-set to i (getD from i d) l, take-suc from i d h, e)
+
+  pub copy-end : (from to : List A) (i : ℕ) → length to ≡ length from → length from ≤ i → take i to ≡ take i from → to ≡ from
+  copy-end from to i q h e =
+      let l : length to ≤ i = omega arith in
+      sym (take-all i to l) ∙ e ∙ take-all i from h
+
+  -- ---- a list d that is written from the front: after i stores it is `take i new ++ drop i d`
+
+  write-suc : (d new : List A) (i : ℕ) (z : A) → i < length d → i < length new → set (take i new ++ drop i d) i (getD new i z) ≡ take (suc i) new ++ drop (suc i) d
+  write-suc (y ∷ d) (x ∷ new) zero z h l = refl
+  write-suc (y ∷ d) (x ∷ new) (suc i) z h l =
+      ap {B = List A} (λ r. x ∷ r) (write-suc d new i z (le-of-suc-le-suc h) (le-of-suc-le-suc l))
+  write-suc [] new i z h l = absurd (not-suc-le-zero h)
+  write-suc (y ∷ d) [] i z h l = absurd (not-suc-le-zero l)
+
+  pub write-more : (d new : List A) (i : ℕ) (z : A) → i < length d → i < length new → set (take i new ++ drop i d) i (getD new i z) ≡ take (i + 1) new ++ drop (i + 1) d
+  write-more d new i z h l = rw add-one (write-suc d new i z h l)
+
+  pub write-all : (d new : List A) (i : ℕ) → length d ≤ i → length new ≤ i → take i new ++ drop i d ≡ new
+  write-all d new i h l = rw (drop-of-length-le d {i = i} h, take-all i new l) (append-nil new)

@@ -3,3 +3,4 @@ pub mod Lists
 pub mod Integers
 pub mod Run
 pub mod Rows
+pub mod Times

@@ -2,10 +2,12 @@
 -- Definitions only.
 use mathlib.Core.Bool.{Bool, true, false, cond, _&&_, _||_}
 use mathlib.Core.Logic.{_⊎_}
-use mathlib.Core.List.{List, [], _∷_}
+use mathlib.Core.List.{List, [], _∷_, _++_, reverse}
 use Prim.Native.Nat.{ℕ, zero, suc, _+_}
 use lib.IntN.{ℤ, pos, _+ℤ_}
 use lib.Dec.{eqb}
+use lib.ListN.{take, drop}
+use lib.Seq.{slice}
 
 -- ---- facts
 
@@ -33,6 +35,10 @@ range from (suc count) = from ∷ range (suc from) count
 unfoldable pub keep : {A : Type 0} → (A → Bool) → List A → List A
 keep p [] = []
 keep p (x ∷ xs) = cond (p x) (x ∷ keep p xs) (keep p xs)
+
+-- the list with its entries from place f on, before place t, in reverse order
+unfoldable pub flipped : {A : Type 0} → (f t : ℕ) → List A → List A
+flipped f t l = take f l ++ (reverse (slice f t l) ++ drop t l)
 
 -- ---- tests
 
