@@ -15,3 +15,4 @@ pub mod Refusals
 pub mod Plan
 pub mod Check
 pub mod Table
+pub mod Standing
