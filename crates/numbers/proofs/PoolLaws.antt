@@ -2,18 +2,19 @@
 use mathlib.Core.Path.{_≡_, refl, sym, ap, _∙_}
 use mathlib.Core.Bool.{Bool, true, false, not}
 use mathlib.Core.Logic.{_≢_}
-use mathlib.Core.List.{List, []}
-use Prim.Native.Nat.{ℕ, _+_, _*_, _-_, _<_, _≤_}
+use mathlib.Core.List.{List, [], _++_}
+use Prim.Native.Nat.{ℕ, min, _+_, _*_, _-_, _<_, _≤_}
 use native.Mathlib.Nat.{mul-le-mul-right}
 use native.Mathlib.Omega.{arith}
 use borrow.Author.Tests.{lt-ltb, le-ltb}
 use lib.Dec.{T, ltb, ltb→lt, nltb→le}
-use lib.ListN.{length, getD, set, take}
+use lib.ListN.{length, getD, set, take, replicate, drop}
 use lib.Seq.{getD-set-same, getD-set-other}
 use Rattle.laws.specs.Rows.{rows, rowOf, places}
-use Rattle.laws.specs.Run.{Run, ok, fault, if_then_else_, at}
-use Rattle.laws.proofs.Rows.{at-rows, at-rows-out, set-rows, places-same, places-other}
-use Rattle.numbers.specs.Pools.{rowIn, pooled}
+use Rattle.laws.specs.Run.{Run, ok, fault, if_then_else_, at, andThen, forEach}
+use Rattle.laws.proofs.Rows.{at-rows, at-rows-out, set-rows, places-same, places-other, row-whole, other-row, constant-rows, rowOf-length, rowOf-at}
+use Rattle.numbers.specs.Pools.{rowIn, pooled, PoolFits}
+use Rattle.laws.proofs.Runs.{forEach-next, forEach-end}
 
 -- entry k of row g has its place in a pool of n rows of n
 pub place-in : (n g k : ℕ) → g < n → k < n → g * n + k < n * n
@@ -57,3 +58,36 @@ module _ (n : ℕ) (counts pool : List ℕ) where
   pooled-entry b k v h l = one-row counts (set pool ((b - n) * n + k) v) b (take (getD counts (b - n) 0) (set (places n pool (b - n)) k v)) h
       (ap (take (getD counts (b - n) 0)) (places-same n pool (b - n) k v))
       (λ g d. ap (take (getD counts g 0)) (sym (places-other n pool (b - n) k v g d l)))
+
+  -- where all counts are 0 all rows are empty
+  pub pooled-empty : ((g : ℕ) → getD counts g 0 ≡ 0) → pooled n counts pool ≡ replicate (2 * n) []
+  pooled-empty e = constant-rows (rowIn n counts pool) [] (2 * n) empty
+    where
+      empty : (b : ℕ) → rowIn n counts pool b ≡ []
+      empty b = go (ltb b n)
+        where
+          go : (t : Bool) → (if t then [] else rowOf n counts pool (b - n)) ≡ []
+          go true = refl
+          go false = ap (λ (k : ℕ). take k (places n pool (b - n))) (e (b - n))
+
+-- the row of group b rewritten whole: the pool is a, the row's entries in use, and what is after them
+pub pooled-row : (n : ℕ) (counts a r r′ c : List ℕ) (b : ℕ) → n ≤ b → length a ≡ (b - n) * n → length r ≡ min (getD counts (b - n) 0) n → length r′ ≡ length r
+    → pooled n counts (a ++ (r′ ++ c)) ≡ set (pooled n counts (a ++ (r ++ c))) b r′
+pooled-row n counts a r r′ c b h e k l = one-row n counts (a ++ (r ++ c)) counts (a ++ (r′ ++ c)) b r′ h
+    (row-whole n a c (b - n) e counts r′ (l ∙ k))
+    (λ g d. ap (take (getD counts g 0)) (other-row n a c (b - n) e r r′ (sym l) (omega arith) g d))
+
+-- ---- a loop through the row of a group: what is left from place k on is the whole
+
+module _ {S : Type 0} (f : ℕ → S → Run S) (n : ℕ) (counts kids : List ℕ) (fits : PoolFits n counts kids) (g : ℕ) (inside : g < n) where
+  row-length : length (rowOf n counts kids g) ≡ min (getD counts g 0) n
+  row-length = rowOf-length n counts kids g (omega (arith, place-row n g inside, fits .places))
+
+  pub row-next : {whole : Run S} (m k c : ℕ) (s : S) (r : Run S) → m ≡ min (getD counts g 0) n → k < m → c ≡ getD kids (g * n + k) 0 → r ≡ f c s
+      → forEach f (drop k (rowOf n counts kids g)) s ≡ whole → andThen r (forEach f (drop (k + 1) (rowOf n counts kids g))) ≡ whole
+  row-next m k c s r e h q l w =
+      let i : k < length (rowOf n counts kids g) = rw row-length (omega arith) in
+      forEach-next f (rowOf n counts kids g) 0 k (ok s) r i (l ∙ ap (λ (x : ℕ). f x s) (q ∙ sym (rowOf-at n counts kids g k 0 (omega arith)))) w
+
+  pub row-end : {whole : Run S} (m k : ℕ) (s : S) → m ≡ min (getD counts g 0) n → m ≤ k → forEach f (drop k (rowOf n counts kids g)) s ≡ whole → ok s ≡ whole
+  row-end m k s e h w = forEach-end f (rowOf n counts kids g) k (ok s) (rw row-length (omega arith)) w

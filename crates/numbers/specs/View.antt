@@ -34,6 +34,11 @@ abbrev pub gotGroup : GotGroup → Run ℕ
 gotGroup (group.At b) = ok (b .0)
 gotGroup group.Out = fault
 
+-- where the number is a count: what the lists hold by it
+abbrev pub counted : {A : Type 0} → Got → (ℕ → A) → Run A
+counted (number.At k) f = ok (f k)
+counted number.Out f = fault
+
 -- the answer r of a routine that changes lent lists agrees with the definition's run x: true, and then the lists are a; or false, and a fault
 pub record Agrees {A : Type 0} (x : Run A) (r : Bool) (a : A) : Type 0 where
   pub done : r ≡ true → x ≡ ok a

@@ -1,10 +1,11 @@
 // Node, edge, end and group numbers are counted apart: a tuple struct each. One becomes another, or a plain number, only by a
 // function named here. Lists store plain numbers; a read of one answers a number of the kind that the list holds, or Out.
 ghost use mathlib.Core.Path.{_≡_};
-ghost use Prim.Native.Nat.{ℕ, _+_, _*_, _/_, _<_};
-ghost use Rattle.laws.specs.Run.{at, put};
-ghost use Rattle.matching.specs.Graph.{beside as besideOf, isMissing};
-ghost use Rattle.numbers.specs.View.{gotOf, gotNode, gotEdge, gotEnd, gotGroup, Agrees};
+ghost use Prim.Native.Nat.{ℕ, _+_, _*_, _/_, _<_, _≤_};
+ghost use lib.ListN.{length, take};
+ghost use Rattle.laws.specs.Run.{at, put, push as pushOf};
+ghost use Rattle.matching.specs.Graph.{beside as besideOf, missing, isMissing};
+ghost use Rattle.numbers.specs.View.{gotOf, gotNode, gotEdge, gotEnd, gotGroup, counted, Agrees};
 
 pub mod pools;
 
@@ -20,10 +21,23 @@ pub struct End(pub u16);
 pub struct Group(pub u16);
 
 impl Node {
+    // No node.
+    pub fn missing() -> Node
+        ensures { λ r. ⌜ r .0 ≡ missing ⌝ }
+    {
+        Node(MISSING)
+    }
+
     pub fn number(self) -> u16
         ensures { λ r. ⌜ r ≡ self .0 ⌝ }
     {
         self.0
+    }
+
+    pub fn is_missing(self) -> bool
+        ensures { λ r. ⌜ r ≡ isMissing (self .0) ⌝ }
+    {
+        self.0 == MISSING
     }
 
     // The node as the group of itself.
@@ -205,5 +219,30 @@ pub fn store(list: &mut [u16], i: u16, x: u16) -> bool
         true
     } else {
         false
+    }
+}
+
+// x goes after the first len of a list, which holds at most cap; the answer is how many there are then.
+pub fn push(list: &mut [u16], len: u16, cap: u16, x: u16) -> Got
+    requires { ⌜ cap ≤ length (now list) ⌝ }
+    ensures { λ r. ⌜ counted r (λ k. take k (now (list .exit))) ≡ pushOf cap x (take len (now (list .entry))) ⌝ }
+{
+    if len < cap {
+        list[len as usize] = x;
+        Got::At(len + 1)
+    } else {
+        Got::Out
+    }
+}
+
+// The list `to` becomes a copy of `from`.
+pub fn copy(from: &[u16], to: &mut [u16])
+    requires { ⌜ length (now from) ≡ length (now to) ⌝ }
+    ensures { λ r. ⌜ now (to .exit) ≡ now (from .entry) ⌝ }
+{
+    let mut i = 0;
+    while i < from.len() {
+        to[i] = from[i];
+        i += 1;
     }
 }

@@ -38,6 +38,14 @@ pub fn row_at(pool: &[u16], n: u16, g: u16, k: u16) -> u16
     pool[i]
 }
 
+// Entry k of row g of a pool of groups.
+pub fn group_at(pool: &[u16], n: u16, g: u16, k: u16) -> Group
+    requires { ⌜ g * n + k < length (now pool) ⌝ }
+    ensures { λ r. ⌜ r .0 ≡ getD (now (pool .entry)) (g * n + k) 0 ⌝ }
+{
+    Group(row_at(pool, n, g, k))
+}
+
 // Entry k of row g becomes x.
 pub fn row_set(pool: &mut [u16], n: u16, g: u16, k: u16, x: u16)
     requires { ⌜ g * n + k < length (now pool) ⌝ }
