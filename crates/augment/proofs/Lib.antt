@@ -1,0 +1,4 @@
+pub mod RingLaws
+pub mod TurnLaws
+pub mod MateLaws
+pub mod TrailLaws
