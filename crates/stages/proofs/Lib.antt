@@ -1,0 +1,9 @@
+pub mod Amounts
+pub mod Tops
+pub mod Ranges
+pub mod Fills
+pub mod DeltaLaws
+pub mod ShiftLaws
+pub mod FollowLaws
+pub mod VisitLaws
+pub mod Forgets
