@@ -1,0 +1,65 @@
+-- The lists of the state before the first stage: arrays that hold one number throughout, of which the first n were written anew.
+use mathlib.Core.Path.{_≡_, refl, sym, ap, _∙_}
+use mathlib.Core.Bool.{Bool, true, false, not}
+use mathlib.Core.List.{List, [], _++_}
+use Prim.Native.Nat.{ℕ, _+_, _*_, _<_, _≤_}
+use native.Mathlib.Omega.{arith}
+use lib.Dec.{T, ltb, ltb→lt, nltb→le}
+use lib.IntN.{ℤ, pos}
+use lib.ListN.{length, getD, take, drop, replicate, length-replicate, getD-replicate, List·getD-eq-default}
+use lib.Seq.{take-at, take-take}
+use Rattle.laws.specs.Lists.{range}
+use Rattle.laws.specs.Run.{ok}
+use Rattle.laws.proofs.Lists.{length-range}
+use Rattle.laws.proofs.Windows.{take-replicate, take-written}
+use Rattle.matching.specs.Graph.{Edge, graphOf, missing}
+use Rattle.numbers.specs.Pools.{pooled}
+use Rattle.numbers.proofs.PoolLaws.{pooled-empty}
+use Rattle.steps.specs.Ends.{topWeight}
+use Rattle.steps.specs.State.{State, opening, start}
+
+-- a count of 0, read anywhere
+zero-count : (k g : ℕ) → getD {A = ℕ} (replicate k 0) g 0 ≡ 0
+zero-count k g = go (ltb g k) (ltb→lt g k) (nltb→le g k)
+  where
+    go : (t : Bool) → (T t → g < k) → (T (not t) → k ≤ g) → getD {A = ℕ} (replicate k 0) g 0 ≡ 0
+    go true f h = getD-replicate k g 0 0 (f tt)
+    go false f h = List·getD-eq-default (replicate k 0) 0 (rw (length-replicate {A = ℕ} k 0) (h tt))
+
+-- the first n of such an array are n
+pub part-length : {A : Type 0} {l : List A} (k : ℕ) (v : A) (n : ℕ) → l ≡ replicate k v → n ≤ k → n ≡ length (take n l)
+part-length {l} k v n e h = rw (e, take-replicate n k v h, length-replicate n v)
+
+module _ (n : ℕ) (few : n ≤ 64) where
+  pub no-rows : (pool : List ℕ) → pooled n (take n (replicate 64 0)) pool ≡ replicate (2 * n) []
+  no-rows pool = pooled-empty n (take n (replicate 64 0)) pool (λ g. rw (take-replicate {A = ℕ} n 64 0 few) (zero-count n g))
+
+  pub first-range : (from : ℕ) (l : List ℕ) → take n (range from n ++ l) ≡ range from n
+  first-range from l = take-at (range from n) l n (length-range from n)
+
+  twice : {A : Type 0} (new : List A) (v : A) → length new ≡ n → take (2 * n) (new ++ drop n (replicate 128 v)) ≡ new ++ replicate n v
+  twice new v e = let k : 2 * n ≡ n + n = omega arith in rw k (take-written new n n 128 v e (omega arith))
+
+  pub first-bases : take (2 * n) (range 0 n ++ drop n (replicate 128 missing)) ≡ range 0 n ++ replicate n missing
+  first-bases = twice (range 0 n) missing (length-range 0 n)
+
+  pub first-duals : (top : ℤ) → take (2 * n) (replicate n top ++ drop n (replicate 128 (pos 0))) ≡ replicate n top ++ replicate n (pos 0)
+  first-duals top = twice (replicate n top) (pos 0) (length-replicate n top)
+
+  pub first-free : (l : List ℕ) → take n (take n (range n n ++ l)) ≡ range n n
+  first-free l = take-take n n (range n n ++ l) (omega arith) ∙ first-range n l
+
+-- a fresh state, list by list
+module _ (edges : List Edge) (n : ℕ) {tops parents bases free labels labelEnds best queue mates : List ℕ} {children ringEnds bestLists : List (List ℕ)} {allowed : List Bool} {duals : List ℤ} where
+  pub fresh-lists : tops ≡ range 0 n → parents ≡ replicate (2 * n) missing → bases ≡ range 0 n ++ replicate n missing
+      → children ≡ replicate (2 * n) [] → ringEnds ≡ replicate (2 * n) [] → free ≡ range n n
+      → labels ≡ replicate (2 * n) 0 → labelEnds ≡ replicate (2 * n) missing → best ≡ replicate (2 * n) missing → bestLists ≡ replicate (2 * n) []
+      → allowed ≡ replicate (length edges) false → queue ≡ [] → mates ≡ replicate n missing → duals ≡ replicate n (topWeight edges) ++ replicate n (pos 0)
+      → ok (record {
+        forest = record { tops = tops; parents = parents; bases = bases; children = children; ringEnds = ringEnds; free = free };
+        labelling = record { labels = labels; labelEnds = labelEnds; best = best; bestLists = bestLists; allowed = allowed; queue = queue };
+        pairing = record { mates = mates; duals = duals };
+        progress = record { stage = 0; phase = opening };
+      }) ≡ ok (start (graphOf n edges))
+  unfolding start
+  fresh-lists a b c d e f g h i j k l m o = rw (a, b, c, d, e, f, g, h, i, j, k, l, m, o)

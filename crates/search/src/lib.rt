@@ -1,0 +1,2 @@
+// The state of a search, by value, and its four steps.
+pub mod state;
