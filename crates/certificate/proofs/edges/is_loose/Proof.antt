@@ -1,0 +1,16 @@
+use Rattle.certificate.proofs.SignedLaws.{zero-bits}
+use Rattle.certificate.proofs.edges.is_loose.Statement.{statement}
+use Rattle.certificate.proofs.edges.is_loose.Tie as tie
+use Rattle.certificate.proofs.edges.is_loose.Reads as reads
+use Rattle.certificate.proofs.edges.is_loose.Lts as lts
+use borrow.Author.Needs.{needs}
+
+returns : tie.Need-returns
+returns c = rw (c .if1 .taken, zero-bits (c .before .args .slack) (c .before .fits .slack))
+
+pub is-loose-spec : {M : Type 1} → statement M
+is-loose-spec =
+    tie.close
+    (tie.spec
+    returns
+    (λ c. search needs))
