@@ -1,0 +1,4 @@
+-- The printed answer as bytes.
+pub mod Text
+pub mod Answer
+pub mod View

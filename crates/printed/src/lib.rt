@@ -1,0 +1,3 @@
+// The printed answer, written into a lent buffer. A buffer that is too short holds as much of the text as it has room for.
+pub mod answer;
+pub mod text;
