@@ -1,1 +1,3 @@
 pub mod Fresh
+pub mod Parts
+pub mod Opened

@@ -1,8 +1,10 @@
 -- What the state by value stands for: each list of the definition is the first entries of its array.
+use mathlib.Core.Path.{_≡_}
 use mathlib.Core.Bool.{Bool}
-use Prim.Native.Nat.{ℕ, _*_}
+use Prim.Native.Nat.{ℕ, _*_, _≤_}
 use lib.ListN.{take}
 use Rattle.laws.specs.Run.{Run, ok, fault, if_then_else_}
+use Rattle.numbers.specs.Near.{Near}
 use Rattle.numbers.specs.Pools.{pooled}
 use Rattle.steps.specs.State.{State, Phase, opening, searching, closing, ended}
 use Rattle.search.specs.declared.state.Phase.{Phase as PhaseCode}
@@ -41,3 +43,15 @@ stateOf s =
 -- a bad state is a fault
 abbrev pub runOf : Search → Run State
 runOf s = if s .bad then fault else ok (stateOf s)
+
+-- the state is within the limits: its lists have room, and its duals are within 2^52 of zero
+pub record Held (s : Search) : Type 0 where
+  pub few : s .n ≤ 64
+  pub fit : s .m ≤ 2048
+  pub near : Near 4503599627370496 (take (2 * s .n) (s .duals))
+
+-- a step keeps the limits, the nodes and the edges
+pub record Kept (s r : Search) : Type 0 where
+  pub held : Held r
+  pub nodes : r .n ≡ s .n
+  pub edges : r .m ≡ s .m

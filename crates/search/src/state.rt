@@ -6,11 +6,11 @@ ghost use lib.IntN.{pos};
 ghost use Prim.Native.Nat.{ℕ, _≤_, _+_};
 ghost use lib.ListN.{length, replicate};
 ghost use Rattle.laws.specs.Lists.{range};
-ghost use Rattle.laws.specs.Run.{ok};
+ghost use Rattle.laws.specs.Run.{ok, fault};
 ghost use Rattle.matching.specs.Graph.{Edge, graphOf};
 ghost use Rattle.steps.specs.State.{start};
 ghost use Rattle.steps.specs.Ends.{topWeight};
-ghost use Rattle.search.specs.View.{runOf};
+ghost use Rattle.search.specs.View.{runOf, Held, Kept};
 use numbers::MISSING;
 
 // What the next step is.
@@ -155,5 +155,14 @@ impl Search {
             stage: 0,
             phase: Phase::Opening,
         }
+    }
+
+    // A fault has come.
+    pub fn failed(mut self) -> Search
+        requires { ⌜ Held self ⌝ }
+        ensures { λ r. ⌜ (runOf r ≡ fault) × Kept self r ⌝ }
+    {
+        self.bad = true;
+        self
     }
 }
