@@ -24,8 +24,8 @@ use Rattle.certificate.specs.Chains.{Climbing}
 use Rattle.certificate.specs.Groups.{groupFits}
 use Rattle.certificate.specs.Lists.{Known, Weighed, Near, lent, bare, room, certificateOf, sameLength, unequal, intakeLists, checkLists, endNode, mateFits, namedAt, matchedBy}
 use Rattle.certificate.specs.View.{slacksOf, slackAnswer}
-use Rattle.certificate.specs.declared.edges.Slacks.{Slacks}
-use Rattle.certificate.specs.declared.edges.Slacks.the-variants as answers
+use Rattle.certificate.specs.declared.slacks.Slacks.{Slacks}
+use Rattle.certificate.specs.declared.slacks.Slacks.the-variants as answers
 use Rattle.certificate.proofs.Loops.{all-same, of-true, is-true}
 use Rattle.certificate.proofs.ListLaws.{slices, node-at, mate-at, end-node, parents-all, all-named, all-climb}
 use Rattle.certificate.proofs.IntakeLaws.{edges-length, edge-at}

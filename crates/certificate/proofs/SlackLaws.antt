@@ -21,7 +21,7 @@ use Rattle.matching.specs.Tests.{edgeTest, tightTest}
 use Rattle.certificate.specs.Chains.{Table, commonDuals}
 use Rattle.certificate.specs.Lists.{Known, Weighed, Near, lent, matchedBy, certificateOf}
 use Rattle.certificate.specs.View.{slacksOf, slackAnswer}
-use Rattle.certificate.specs.declared.edges.Slacks.the-variants as answers
+use Rattle.certificate.specs.declared.slacks.Slacks.the-variants as answers
 use Rattle.certificate.proofs.Loops.{all-start, all-next, all-stop, all-end, range-more, range-none}
 use Rattle.certificate.proofs.ListLaws.{slices, matched-by}
 

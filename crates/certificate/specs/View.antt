@@ -14,8 +14,8 @@ use Rattle.certificate.specs.declared.answers.Condition.the-variants as 
 use Rattle.certificate.specs.declared.answers.Intake as intake
 use Rattle.certificate.specs.declared.answers.Intake.the-variants as intakes
 use Rattle.certificate.specs.declared.answers.Verdict as verdict
-use Rattle.certificate.specs.declared.edges.Slacks as slack
-use Rattle.certificate.specs.declared.edges.Slacks.the-variants as slacks
+use Rattle.certificate.specs.declared.slacks.Slacks as slack
+use Rattle.certificate.specs.declared.slacks.Slacks.the-variants as slacks
 use Rattle.certificate.specs.declared.answers.Verdict.the-variants as verdicts
 
 abbrev pub causeOf : cause.Cause → Refusal

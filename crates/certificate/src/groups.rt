@@ -10,7 +10,7 @@ ghost use Rattle.certificate.specs.Chains.{Table, Made};
 ghost use Rattle.certificate.specs.Groups.{Listed, insideBy, withinBy, fullBy, groupFits};
 ghost use Rattle.certificate.specs.Lists.{Known, Near, bare, matchedBy};
 use crate::chains::contains;
-use crate::edges::is_matched;
+use crate::slacks::is_matched;
 use numbers::Edge;
 use numbers::Group;
 use numbers::Node;

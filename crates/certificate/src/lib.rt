@@ -12,23 +12,23 @@ ghost use Rattle.certificate.specs.View.{judgementOf};
 
 pub mod answers;
 pub mod chains;
-pub mod edges;
 pub mod groups;
 pub mod intake;
 pub mod nodes;
+pub mod slacks;
 
 use crate::answers::Condition;
 use crate::answers::Intake;
 use crate::answers::Verdict;
 use crate::chains::fill_chains;
-use crate::edges::Slacks;
-use crate::edges::judge_slacks;
 use crate::groups::full_pass;
 use crate::intake::refusal;
 use crate::nodes::duals_pass;
 use crate::nodes::free_pass;
 use crate::nodes::mates_pass;
 use crate::nodes::parents_pass;
+use crate::slacks::Slacks;
+use crate::slacks::judge_slacks;
 
 // EDGE to FULL, where MATE, PARENT and DUAL hold.
 fn judge_sums(

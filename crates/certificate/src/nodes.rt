@@ -22,7 +22,7 @@ pub const MAX_DUAL: i64 = 4503599627370496;
 // ---- 11 MATE
 
 // The node that end p is at.
-fn node_at(first: &[u16], second: &[u16], p: End) -> Node
+pub fn node_at(first: &[u16], second: &[u16], p: End) -> Node
     requires { ⌜ (length (now second) ≡ length (now first)) × (p .0 < 2 * length (now first)) ⌝ }
     ensures { λ r. ⌜ r .0 ≡ endNode (now (first .entry)) (now (second .entry)) (p .0) ⌝ }
 {

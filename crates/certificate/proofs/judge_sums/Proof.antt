@@ -14,7 +14,7 @@ use Rattle.certificate.proofs.judge_sums.Tie as tie
 use Rattle.certificate.proofs.judge_sums.Reads as reads
 use Rattle.certificate.proofs.judge_sums.Lts as lts
 use Rattle.certificate.proofs.chains.fill_chains.Reads as fill-chains-reads
-use Rattle.certificate.proofs.edges.judge_slacks.Reads as judge-slacks-reads
+use Rattle.certificate.proofs.slacks.judge_slacks.Reads as judge-slacks-reads
 use Rattle.certificate.proofs.groups.full_pass.Reads as full-pass-reads
 use Rattle.certificate.proofs.nodes.free_pass.Reads as free-pass-reads
 

@@ -11,7 +11,7 @@ use Rattle.certificate.proofs.groups.list_pairs.Statement.{statement}
 use Rattle.certificate.proofs.groups.list_pairs.Tie as tie
 use Rattle.certificate.proofs.groups.list_pairs.Reads as reads
 use Rattle.certificate.proofs.groups.list_pairs.Lts as lts
-use Rattle.certificate.proofs.edges.is_matched.Reads as is-matched-reads
+use Rattle.certificate.proofs.slacks.is_matched.Reads as is-matched-reads
 use Rattle.certificate.proofs.groups.bit.Reads as bit-reads
 
 abbrev Inv-loop : tie.InvT-loop

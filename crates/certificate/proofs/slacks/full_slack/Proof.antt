@@ -12,10 +12,10 @@ use mir.ValLaws.{toZ-ofZ}
 use Rattle.certificate.specs.Chains.{commonDuals}
 use Rattle.certificate.proofs.SignedLaws.{near-fits}
 use Rattle.certificate.proofs.SlackLaws.{common-near, bits-ends, bits-weight, bits-slack, bits-common, bits-full, bits-result, slack-is}
-use Rattle.certificate.proofs.edges.full_slack.Statement.{statement}
-use Rattle.certificate.proofs.edges.full_slack.Tie as tie
-use Rattle.certificate.proofs.edges.full_slack.Reads as reads
-use Rattle.certificate.proofs.edges.full_slack.Lts as lts
+use Rattle.certificate.proofs.slacks.full_slack.Statement.{statement}
+use Rattle.certificate.proofs.slacks.full_slack.Tie as tie
+use Rattle.certificate.proofs.slacks.full_slack.Reads as reads
+use Rattle.certificate.proofs.slacks.full_slack.Lts as lts
 use Rattle.certificate.proofs.chains.common_duals.Reads as common-duals-reads
 use Rattle.numbers.proofs.Edge.number.Reads as number-reads
 

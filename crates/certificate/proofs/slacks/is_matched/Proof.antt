@@ -4,10 +4,10 @@ use borrow.Author.Needs.{needs}
 use borrow.Author.Tests.{eq-eqb, ne-eqb}
 use lib.ListN.{getD}
 use Rattle.certificate.specs.Lists.{matchedBy}
-use Rattle.certificate.proofs.edges.is_matched.Statement.{statement}
-use Rattle.certificate.proofs.edges.is_matched.Tie as tie
-use Rattle.certificate.proofs.edges.is_matched.Reads as reads
-use Rattle.certificate.proofs.edges.is_matched.Lts as lts
+use Rattle.certificate.proofs.slacks.is_matched.Statement.{statement}
+use Rattle.certificate.proofs.slacks.is_matched.Tie as tie
+use Rattle.certificate.proofs.slacks.is_matched.Reads as reads
+use Rattle.certificate.proofs.slacks.is_matched.Lts as lts
 use Rattle.numbers.proofs.Edge.first_end.Reads as first-end-reads
 use Rattle.numbers.proofs.Edge.number.Reads as Edge-number-reads
 use Rattle.numbers.proofs.Edge.second_end.Reads as second-end-reads

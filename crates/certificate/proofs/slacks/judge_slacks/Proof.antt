@@ -12,14 +12,14 @@ use mir.ValLaws.{toZ-ofZ}
 use Rattle.certificate.specs.Chains.{Table}
 use Rattle.certificate.proofs.SignedLaws.{below-zero, from-zero}
 use Rattle.certificate.proofs.SlackLaws.{Passing, passing-start, passing-low, passing-next, passing-loose, passing-fit}
-use Rattle.certificate.proofs.edges.judge_slacks.Statement.{statement}
-use Rattle.certificate.proofs.edges.judge_slacks.Tie as tie
-use Rattle.certificate.proofs.edges.judge_slacks.Reads as reads
-use Rattle.certificate.proofs.edges.judge_slacks.Lts as lts
-use Rattle.certificate.proofs.edges.either.Reads as either-reads
-use Rattle.certificate.proofs.edges.full_slack.Reads as full-slack-reads
-use Rattle.certificate.proofs.edges.is_loose.Reads as is-loose-reads
-use Rattle.certificate.proofs.edges.is_matched.Reads as is-matched-reads
+use Rattle.certificate.proofs.slacks.judge_slacks.Statement.{statement}
+use Rattle.certificate.proofs.slacks.judge_slacks.Tie as tie
+use Rattle.certificate.proofs.slacks.judge_slacks.Reads as reads
+use Rattle.certificate.proofs.slacks.judge_slacks.Lts as lts
+use Rattle.certificate.proofs.slacks.either.Reads as either-reads
+use Rattle.certificate.proofs.slacks.full_slack.Reads as full-slack-reads
+use Rattle.certificate.proofs.slacks.is_loose.Reads as is-loose-reads
+use Rattle.certificate.proofs.slacks.is_matched.Reads as is-matched-reads
 
 abbrev Inv-loop : tie.InvT-loop
 Inv-loop n first second weight mates duals counts pool m loose₀ e₀ loose e =

@@ -1,8 +1,8 @@
 use Rattle.certificate.proofs.SignedLaws.{zero-bits}
-use Rattle.certificate.proofs.edges.is_loose.Statement.{statement}
-use Rattle.certificate.proofs.edges.is_loose.Tie as tie
-use Rattle.certificate.proofs.edges.is_loose.Reads as reads
-use Rattle.certificate.proofs.edges.is_loose.Lts as lts
+use Rattle.certificate.proofs.slacks.is_loose.Statement.{statement}
+use Rattle.certificate.proofs.slacks.is_loose.Tie as tie
+use Rattle.certificate.proofs.slacks.is_loose.Reads as reads
+use Rattle.certificate.proofs.slacks.is_loose.Lts as lts
 use borrow.Author.Needs.{needs}
 
 returns : tie.Need-returns
