@@ -6,6 +6,7 @@ ghost use lib.IntN.{pos};
 ghost use lib.ListN.{length, take};
 ghost use Rattle.laws.specs.Run.{forEach, put, pop};
 ghost use Rattle.matching.specs.Graph.{Edge as EdgeOf, graphOf};
+ghost use Rattle.numbers.specs.Near.{Near};
 ghost use Rattle.numbers.specs.View.{Agrees, counted};
 ghost use Rattle.steps.specs.State.{State};
 ghost use Rattle.steps.specs.Add.{settle as settleOf, takeIn};
@@ -30,9 +31,9 @@ pub fn last_free(free: &[u16], unused: u16) -> GotGroup
     group_in(free, unused - 1)
 }
 
-// The dual of group b is 0.
+// The dual of group b is 0, so no dual is farther from zero than before.
 fn clear_dual(duals: &mut [i64], b: Group) -> bool
-    ensures { λ r. ⌜ Agrees (put (now (duals .entry)) (b .0) (pos 0)) r (now (duals .exit)) ⌝ }
+    ensures { λ r. ⌜ Agrees (put (now (duals .entry)) (b .0) (pos 0)) r (now (duals .exit)) × ((k : ℕ) → Near k (now (duals .entry)) → Near k (now (duals .exit))) ⌝ }
 {
     let k = b.number() as usize;
     if k < duals.len() {
@@ -51,7 +52,7 @@ pub fn settle(
     new: Group,
     first: Group,
 ) -> bool
-    ensures { λ r. ⌜ ((s : State) → Agrees (settleOf (new .0) (first .0) (settling (now (labels .entry)) (now («label_ends» .entry)) (now (duals .entry)) s)) r (settling (now (labels .exit)) (now («label_ends» .exit)) (now (duals .exit)) s)) ⌝ }
+    ensures { λ r. ⌜ ((s : State) → Agrees (settleOf (new .0) (first .0) (settling (now (labels .entry)) (now («label_ends» .entry)) (now (duals .entry)) s)) r (settling (now (labels .exit)) (now («label_ends» .exit)) (now (duals .exit)) s)) × ((k : ℕ) → Near k (now (duals .entry)) → Near k (now (duals .exit))) ⌝ }
 {
     let i = first.number();
     let j = new.number();

@@ -18,37 +18,37 @@ use Rattle.numbers.proofs.store.Reads as store-reads
 returns : tie.Need-returns
 unfolding settleOf
 returns c =
-    λ s. agrees-fault (rw (← c .before .before .before .before .before .number .ensures, ← c .before .before .before .before .number2 .ensures, told gotOf (c .before .before .get .ensures) (c .enum-told .given .1)))
+    (λ s. agrees-fault (rw (← c .before .before .before .before .before .number .ensures, ← c .before .before .before .before .number2 .ensures, told gotOf (c .before .before .get .ensures) (c .enum-told .given .1))), λ k h. h)
 
 -- src/take.rt:45:9
 returns-2 : tie.Need-returns-2
 unfolding settleOf
 returns-2 c =
-    λ s. agrees-fault (rw (← c .before .before .before .before .before .before .before .number .ensures, ← c .before .before .before .before .before .before .number2 .ensures, told gotOf (c .before .before .before .before .get .ensures) (c .before .before .l .given .1), ne-eqb _ _ (c .if1 .taken)))
+    (λ s. agrees-fault (rw (← c .before .before .before .before .before .before .before .number .ensures, ← c .before .before .before .before .before .before .number2 .ensures, told gotOf (c .before .before .before .before .get .ensures) (c .before .before .l .given .1), ne-eqb _ _ (c .if1 .taken))), λ k h. h)
 
 -- src/take.rt:48:9
 returns-3 : tie.Need-returns-3
 unfolding settleOf
 returns-3 c =
-    λ s. agrees-fault (rw (← c .before .before .before .before .before .before .before .before .before .before .before .before .number .ensures, ← c .before .before .before .before .before .before .before .before .before .before .before .number2 .ensures, told gotOf (c .before .before .before .before .before .before .before .before .before .get .ensures) (c .before .before .before .before .before .before .before .l .given .1), eq-eqb _ _ (c .before .before .before .before .before .if1 .left), (c .before .before .before .store .ensures) .undone (not-true _ (c .if2 .taken))))
+    (λ s. agrees-fault (rw (← c .before .before .before .before .before .before .before .before .before .before .before .before .number .ensures, ← c .before .before .before .before .before .before .before .before .before .before .before .number2 .ensures, told gotOf (c .before .before .before .before .before .before .before .before .before .get .ensures) (c .before .before .before .before .before .before .before .l .given .1), eq-eqb _ _ (c .before .before .before .before .before .if1 .left), (c .before .before .before .store .ensures) .undone (not-true _ (c .if2 .taken)))), λ k h. h)
 
 -- src/take.rt:51:9
 returns-4 : tie.Need-returns-4
 unfolding settleOf
 returns-4 c =
-    λ s. agrees-fault (rw (← c .before .before .before .before .before .before .before .before .before .before .before .before .before .before .before .before .number .ensures, ← c .before .before .before .before .before .before .before .before .before .before .before .before .before .before .before .number2 .ensures, told gotOf (c .before .before .before .before .before .before .before .before .before .before .before .before .before .get .ensures) (c .before .before .before .before .before .before .before .before .before .before .before .l .given .1), eq-eqb _ _ (c .before .before .before .before .before .before .before .before .before .if1 .left), (c .before .before .before .before .before .before .before .store .ensures) .done (not-false _ (c .before .before .before .before .if2 .left)), told gotOf (c .before .before .get2 .ensures) (c .enum-told2 .given .1)))
+    (λ s. agrees-fault (rw (← c .before .before .before .before .before .before .before .before .before .before .before .before .before .before .before .before .number .ensures, ← c .before .before .before .before .before .before .before .before .before .before .before .before .before .before .before .number2 .ensures, told gotOf (c .before .before .before .before .before .before .before .before .before .before .before .before .before .get .ensures) (c .before .before .before .before .before .before .before .before .before .before .before .l .given .1), eq-eqb _ _ (c .before .before .before .before .before .before .before .before .before .if1 .left), (c .before .before .before .before .before .before .before .store .ensures) .done (not-false _ (c .before .before .before .before .if2 .left)), told gotOf (c .before .before .get2 .ensures) (c .enum-told2 .given .1))), λ k h. h)
 
 -- src/take.rt:54:9
 returns-5 : tie.Need-returns-5
 unfolding settleOf
 returns-5 c =
-    λ s. agrees-fault (rw (← c .before .before .before .before .before .before .before .before .before .before .before .before .before .before .before .before .before .before .before .before .before .before .number .ensures, ← c .before .before .before .before .before .before .before .before .before .before .before .before .before .before .before .before .before .before .before .before .before .number2 .ensures, told gotOf (c .before .before .before .before .before .before .before .before .before .before .before .before .before .before .before .before .before .before .before .get .ensures) (c .before .before .before .before .before .before .before .before .before .before .before .before .before .before .before .before .before .l .given .1), eq-eqb _ _ (c .before .before .before .before .before .before .before .before .before .before .before .before .before .before .before .if1 .left), (c .before .before .before .before .before .before .before .before .before .before .before .before .before .store .ensures) .done (not-false _ (c .before .before .before .before .before .before .before .before .before .before .if2 .left)), told gotOf (c .before .before .before .before .before .before .before .before .get2 .ensures) (c .before .before .before .before .before .before .e .given .1), (c .before .before .before .store2 .ensures) .undone (not-true _ (c .if3 .taken))))
+    (λ s. agrees-fault (rw (← c .before .before .before .before .before .before .before .before .before .before .before .before .before .before .before .before .before .before .before .before .before .before .number .ensures, ← c .before .before .before .before .before .before .before .before .before .before .before .before .before .before .before .before .before .before .before .before .before .number2 .ensures, told gotOf (c .before .before .before .before .before .before .before .before .before .before .before .before .before .before .before .before .before .before .before .get .ensures) (c .before .before .before .before .before .before .before .before .before .before .before .before .before .before .before .before .before .l .given .1), eq-eqb _ _ (c .before .before .before .before .before .before .before .before .before .before .before .before .before .before .before .if1 .left), (c .before .before .before .before .before .before .before .before .before .before .before .before .before .store .ensures) .done (not-false _ (c .before .before .before .before .before .before .before .before .before .before .if2 .left)), told gotOf (c .before .before .before .before .before .before .before .before .get2 .ensures) (c .before .before .before .before .before .before .e .given .1), (c .before .before .before .store2 .ensures) .undone (not-true _ (c .if3 .taken)))), λ k h. h)
 
 -- src/take.rt:36:1
 returns-6 : tie.Need-returns-6
 unfolding settleOf
 returns-6 c =
-    λ s. agrees-last (λ q. settling (c .before .before .before .before .before .before .before .before .before .before .before .before .before .before .before .before .store .last .0) (c .before .before .before .before .before .before .store2 .last .0) q s) (c .before .clear-dual .ensures) (rw (← c .before .before .before .before .before .before .before .before .before .before .before .before .before .before .before .before .before .before .before .before .before .before .before .before .before .number .ensures, ← c .before .before .before .before .before .before .before .before .before .before .before .before .before .before .before .before .before .before .before .before .before .before .before .before .number2 .ensures, told gotOf (c .before .before .before .before .before .before .before .before .before .before .before .before .before .before .before .before .before .before .before .before .before .before .get .ensures) (c .before .before .before .before .before .before .before .before .before .before .before .before .before .before .before .before .before .before .before .before .l .given .1), eq-eqb _ _ (c .before .before .before .before .before .before .before .before .before .before .before .before .before .before .before .before .before .before .if1 .left), (c .before .before .before .before .before .before .before .before .before .before .before .before .before .before .before .before .store .ensures) .done (not-false _ (c .before .before .before .before .before .before .before .before .before .before .before .before .before .if2 .left)), told gotOf (c .before .before .before .before .before .before .before .before .before .before .before .get2 .ensures) (c .before .before .before .before .before .before .before .before .before .e .given .1), (c .before .before .before .before .before .before .store2 .ensures) .done (not-false _ (c .before .before .before .if3 .left))))
+    (λ s. agrees-last (λ q. settling (c .before .before .before .before .before .before .before .before .before .before .before .before .before .before .before .before .store .last .0) (c .before .before .before .before .before .before .store2 .last .0) q s) (c .before .clear-dual .ensures .0) (rw (← c .before .before .before .before .before .before .before .before .before .before .before .before .before .before .before .before .before .before .before .before .before .before .before .before .before .number .ensures, ← c .before .before .before .before .before .before .before .before .before .before .before .before .before .before .before .before .before .before .before .before .before .before .before .before .number2 .ensures, told gotOf (c .before .before .before .before .before .before .before .before .before .before .before .before .before .before .before .before .before .before .before .before .before .before .get .ensures) (c .before .before .before .before .before .before .before .before .before .before .before .before .before .before .before .before .before .before .before .before .l .given .1), eq-eqb _ _ (c .before .before .before .before .before .before .before .before .before .before .before .before .before .before .before .before .before .before .if1 .left), (c .before .before .before .before .before .before .before .before .before .before .before .before .before .before .before .before .store .ensures) .done (not-false _ (c .before .before .before .before .before .before .before .before .before .before .before .before .before .if2 .left)), told gotOf (c .before .before .before .before .before .before .before .before .before .before .before .get2 .ensures) (c .before .before .before .before .before .before .before .before .before .e .given .1), (c .before .before .before .before .before .before .store2 .ensures) .done (not-false _ (c .before .before .before .if3 .left)))), c .before .clear-dual .ensures .1)
 
 pub settle-spec : {M : Type 1} → statement M
 settle-spec =

@@ -1,0 +1,4 @@
+pub mod PartLaws
+pub mod RingLaws
+pub mod AddLaws
+pub mod RoomLaws
