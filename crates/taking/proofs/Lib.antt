@@ -1,0 +1,4 @@
+pub mod Sizes
+pub mod JoinLaws
+pub mod VisitLaws
+pub mod TakeLaws
