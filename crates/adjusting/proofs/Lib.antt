@@ -1,0 +1,4 @@
+pub mod CloseLaws
+pub mod FollowLaws
+pub mod Placed
+pub mod Held

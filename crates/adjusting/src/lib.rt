@@ -1,0 +1,3 @@
+// Adjusting the duals with what follows, and closing a stage.
+pub mod adjust;
+pub mod close;
