@@ -2,10 +2,10 @@
 use mathlib.Core.Path.{_≡_, refl, sym, ap, _∙_}
 use mathlib.Core.Bool.{Bool, true, false, not}
 use mathlib.Core.List.{List, [], _++_}
-use Prim.Native.Nat.{ℕ, _+_, _*_, _<_, _≤_}
+use Prim.Native.Nat.{ℕ, zero, suc, _+_, _*_, _<_, _≤_}
 use native.Mathlib.Omega.{arith}
 use lib.Dec.{T, ltb, ltb→lt, nltb→le}
-use lib.IntN.{ℤ, pos}
+use lib.IntN.{ℤ, pos, natAbs}
 use lib.ListN.{length, getD, take, drop, replicate, length-replicate, getD-replicate, List·getD-eq-default}
 use lib.Seq.{take-at, take-take}
 use Rattle.laws.specs.Lists.{range}
@@ -13,6 +13,7 @@ use Rattle.laws.specs.Run.{ok}
 use Rattle.laws.proofs.Lists.{length-range}
 use Rattle.laws.proofs.Windows.{take-replicate, take-written}
 use Rattle.matching.specs.Graph.{Edge, graphOf, missing}
+use Rattle.numbers.specs.Near.{Near}
 use Rattle.numbers.specs.Pools.{pooled}
 use Rattle.numbers.proofs.PoolLaws.{pooled-empty}
 use Rattle.steps.specs.Ends.{topWeight}
@@ -48,6 +49,20 @@ module _ (n : ℕ) (few : n ≤ 64) where
 
   pub first-free : (l : List ℕ) → take n (take n (range n n ++ l)) ≡ range n n
   first-free l = take-take n n (range n n ++ l) (omega arith) ∙ first-range n l
+
+-- the first duals are as near to zero as the largest weight
+zeros-near : (k m i : ℕ) → natAbs (getD (replicate m (pos 0)) i (pos 0)) ≤ k
+zeros-near k zero i = omega arith
+zeros-near k (suc m) zero = omega arith
+zeros-near k (suc m) (suc i) = zeros-near k m i
+
+pub first-near : (k n : ℕ) (top : ℤ) {l : List ℤ} → l ≡ replicate n top ++ replicate n (pos 0) → natAbs top ≤ k → Near k l
+first-near k n top e h = rw e (record { near = go n })
+  where
+    go : (m i : ℕ) → natAbs (getD (replicate m top ++ replicate n (pos 0)) i (pos 0)) ≤ k
+    go zero i = zeros-near k n i
+    go (suc m) zero = h
+    go (suc m) (suc i) = go m i
 
 -- a fresh state, list by list
 module _ (edges : List Edge) (n : ℕ) {tops parents bases free labels labelEnds best queue mates : List ℕ} {children ringEnds bestLists : List (List ℕ)} {allowed : List Bool} {duals : List ℤ} where

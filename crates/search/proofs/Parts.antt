@@ -16,8 +16,10 @@ use Rattle.numbers.specs.Pools.{PoolFits}
 use Rattle.numbers.specs.View.{counted}
 use Rattle.numbers.specs.declared.Got.{Got}
 use Rattle.numbers.specs.declared.Got.the-variants as number
-use Rattle.steps.specs.State.{State}
-use Rattle.search.specs.View.{stateOf, runOf, Held, Kept}
+use Rattle.steps.specs.State.{State, Phase}
+use Rattle.steps.specs.Plan.{isEnded}
+use Rattle.whole.specs.View.{Lists, lent, Fits}
+use Rattle.search.specs.View.{phaseOf, listsOf, stateOf, runOf, Held, Kept}
 use Rattle.search.specs.declared.state.Search.{Search}
 use Rattle.search.proofs.state.Search.{the-row}
 
@@ -120,10 +122,38 @@ part k l h = sym (length-take-le k l h)
 pub anew : {A : Type 0} (k : ℕ) (new old : List A) → k ≤ length old → length new ≡ length (take k old) → take k (new ++ drop k old) ≡ new
 anew k new old h e = take-at new (drop k old) k (e ∙ length-take-le k old h)
 
--- ---- the pools
+-- ---- the lists that are lent
+
+-- the lists of a state, but for its candidates
+abbrev pub besides : Search → (lists sizes : List ℕ) → Lists
+besides s lists sizes =
+    let l = listsOf s in
+    lent (l .labels) (l .labelEnds) (l .best) (l .queue) (l .allowed) (l .tops) (l .parents) (l .bases) (l .mates) (l .kids) (l .links) (l .counts) (l .free) lists sizes (l .duals)
+
+pub lists-fit : (s : Search) → Room s → Held s → (lists sizes : List ℕ) → Fits (s .n) (besides s lists sizes)
+lists-fit s z h lists sizes =
+    record {
+      labels = length-take-le (2 * s .n) (s .labels) (z .labels);
+      label-ends = length-take-le (2 * s .n) (s .«label_ends») (z .label-ends);
+      best = length-take-le (2 * s .n) (s .best) (z .best);
+      queue = length-take-le (2 * s .n) (s .queue) (z .queue);
+      tops = length-take-le (s .n) (s .tops) (z .tops);
+      parents = length-take-le (2 * s .n) (s .parents) (z .parents);
+      bases = length-take-le (2 * s .n) (s .bases) (z .bases);
+      mates = length-take-le (s .n) (s .mates) (z .mates);
+      kids = length-take-le (s .n * s .n) (s .kids) (z .kids);
+      links = length-take-le (s .n * s .n) (s .links) (z .links);
+      counts = length-take-le (s .n) (s .counts) (z .counts);
+      free = length-take-le (s .n) (s .free) (z .free);
+      duals = length-take-le (2 * s .n) (s .duals) (z .duals);
+      near = h .near;
+    }
 
 pub pool-fits : (s : Search) → Room s → PoolFits (s .n) (take (s .n) (s .counts)) (take (s .n * s .n) (s .kids))
 pool-fits s z = record { rows = length-take-le (s .n) (s .counts) (z .counts); places = length-take-le (s .n * s .n) (s .kids) (z .kids) }
+
+pub candidates-fit : (s : Search) → Room s → PoolFits (s .n) (take (s .n) (s .sizes)) (take (s .n * s .n) (s .lists))
+candidates-fit s z = record { rows = length-take-le (s .n) (s .sizes) (z .sizes); places = length-take-le (s .n * s .n) (s .lists) (z .lists) }
 
 -- ---- a method
 
@@ -150,5 +180,16 @@ makes s r f h k e = rw (h, k, e)
 pub same : (s : Search) → Held s → Kept s s
 same s h = record { held = h; nodes = refl; edges = refl }
 
-pub again : (s r : Search) → Held s → r .n ≡ s .n → r .m ≡ s .m → r .duals ≡ s .duals → Kept s r
-again s r h n m d = record { held = record { few = rw n (h .few); fit = rw m (h .fit); near = rw (n, d) (h .near) }; nodes = n; edges = m }
+-- a stage is left
+pub left-over : (s : Search) → Held s → {p : Phase} → phaseOf (s .phase) ≡ p → isEnded p ≡ false → s .stage < s .n
+left-over s h e f = h .going (ap isEnded e ∙ f)
+
+pub again : (s r : Search) → Held s → r .n ≡ s .n → r .m ≡ s .m → r .duals ≡ s .duals → (isEnded (phaseOf (r .phase)) ≡ false → r .stage < r .n) → Kept s r
+again s r h n m d g = record { held = record { few = rw n (h .few); fit = rw m (h .fit); near = rw (n, d) (h .near); going = g }; nodes = n; edges = m }
+
+pub good : (s : Search) → s .bad ≡ false → runOf s ≡ ok (stateOf s)
+good s h = rw h
+
+-- a good state's definition goes on
+pub then-good : (s : Search) (f : State → Run State) → s .bad ≡ false → andThen (runOf s) f ≡ f (stateOf s)
+then-good s f h = rw h

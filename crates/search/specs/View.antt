@@ -1,12 +1,14 @@
 -- What the state by value stands for: each list of the definition is the first entries of its array.
 use mathlib.Core.Path.{_≡_}
-use mathlib.Core.Bool.{Bool}
-use Prim.Native.Nat.{ℕ, _*_, _≤_}
+use mathlib.Core.Bool.{Bool, false}
+use Prim.Native.Nat.{ℕ, _*_, _<_, _≤_}
+use lib.Dec.{eqb}
 use lib.ListN.{take}
 use Rattle.laws.specs.Run.{Run, ok, fault, if_then_else_}
 use Rattle.numbers.specs.Near.{Near}
-use Rattle.numbers.specs.Pools.{pooled}
 use Rattle.steps.specs.State.{State, Phase, opening, searching, closing, ended}
+use Rattle.steps.specs.Plan.{isEnded}
+use Rattle.whole.specs.View.{Lists, lent, entire, progress}
 use Rattle.search.specs.declared.state.Phase.{Phase as PhaseCode}
 use Rattle.search.specs.declared.state.Phase.the-variants as phase
 use Rattle.search.specs.declared.state.Search.{Search}
@@ -17,38 +19,43 @@ phaseOf phase.Searching = searching
 phaseOf phase.Closing = closing
 phaseOf phase.Ended = ended
 
+abbrev pub listsOf : Search → Lists
+listsOf s =
+    lent
+    (take (2 * s .n) (s .labels))
+    (take (2 * s .n) (s .«label_ends»))
+    (take (2 * s .n) (s .best))
+    (take (2 * s .n) (s .queue))
+    (take (s .m) (s .allowed))
+    (take (s .n) (s .tops))
+    (take (2 * s .n) (s .parents))
+    (take (2 * s .n) (s .bases))
+    (take (s .n) (s .mates))
+    (take (s .n * s .n) (s .kids))
+    (take (s .n * s .n) (s .links))
+    (take (s .n) (s .counts))
+    (take (s .n) (s .free))
+    (take (s .n * s .n) (s .lists))
+    (take (s .n) (s .sizes))
+    (take (2 * s .n) (s .duals))
+
 abbrev pub stateOf : Search → State
-stateOf s =
-    record {
-      forest = record {
-        tops = take (s .n) (s .tops);
-        parents = take (2 * s .n) (s .parents);
-        bases = take (2 * s .n) (s .bases);
-        children = pooled (s .n) (take (s .n) (s .counts)) (take (s .n * s .n) (s .kids));
-        ringEnds = pooled (s .n) (take (s .n) (s .counts)) (take (s .n * s .n) (s .links));
-        free = take (s .unused) (take (s .n) (s .free));
-      };
-      labelling = record {
-        labels = take (2 * s .n) (s .labels);
-        labelEnds = take (2 * s .n) (s .«label_ends»);
-        best = take (2 * s .n) (s .best);
-        bestLists = pooled (s .n) (take (s .n) (s .sizes)) (take (s .n * s .n) (s .lists));
-        allowed = take (s .m) (s .allowed);
-        queue = take (s .queued) (take (2 * s .n) (s .queue));
-      };
-      pairing = record { mates = take (s .n) (s .mates); duals = take (2 * s .n) (s .duals) };
-      progress = record { stage = s .stage; phase = phaseOf (s .phase) };
-    }
+stateOf s = entire (s .n) (listsOf s) (s .queued) (s .unused) (progress (s .stage) (phaseOf (s .phase)))
 
 -- a bad state is a fault
 abbrev pub runOf : Search → Run State
 runOf s = if s .bad then fault else ok (stateOf s)
 
--- the state is within the limits: its lists have room, and its duals are within 2^52 of zero
+-- the phase after a stage is closed, by how many are closed then
+abbrev pub phaseAfter : (stage n : ℕ) → Phase
+phaseAfter stage n = if eqb stage n then ended else opening
+
+-- the state is within the limits: its lists have room, its duals are within 2^52 of zero, and a stage is left unless the run has ended
 pub record Held (s : Search) : Type 0 where
   pub few : s .n ≤ 64
   pub fit : s .m ≤ 2048
   pub near : Near 4503599627370496 (take (2 * s .n) (s .duals))
+  pub going : isEnded (phaseOf (s .phase)) ≡ false → s .stage < s .n
 
 -- a step keeps the limits, the nodes and the edges
 pub record Kept (s r : Search) : Type 0 where

@@ -5,15 +5,16 @@ ghost use Prim.Native.Nat.{ℕ};
 ghost use lib.ListN.{length};
 ghost use Rattle.laws.specs.Run.{andThen};
 ghost use Rattle.matching.specs.Graph.{Edge, graphOf};
+ghost use Rattle.steps.specs.State.{opening};
 ghost use Rattle.steps.specs.Steps.{openStage};
-ghost use Rattle.search.specs.View.{runOf, Held, Kept};
+ghost use Rattle.search.specs.View.{phaseOf, runOf, Held, Kept};
 use crate::state::Phase;
 use crate::state::Search;
 use numbers::Got;
 
 impl Search {
     pub fn open(self) -> Search
-        requires { ⌜ Held self ⌝ }
+        requires { ⌜ Held self × (phaseOf (self .phase) ≡ opening) ⌝ }
         ensures { λ r. ⌜ ((edges : List Edge) → length edges ≡ self .m → runOf r ≡ andThen (runOf self) (openStage (graphOf (self .n) edges))) × Kept self r ⌝ }
     {
         if self.bad {

@@ -2,8 +2,8 @@
 ghost use mathlib.Core.Path.{_≡_};
 ghost use mathlib.Core.Bool.{false};
 ghost use mathlib.Core.List.{List};
-ghost use lib.IntN.{pos};
-ghost use Prim.Native.Nat.{ℕ, _≤_, _+_};
+ghost use lib.IntN.{pos, natAbs};
+ghost use Prim.Native.Nat.{ℕ, _<_, _≤_, _+_};
 ghost use lib.ListN.{length, replicate};
 ghost use Rattle.laws.specs.Lists.{range};
 ghost use Rattle.laws.specs.Run.{ok, fault};
@@ -112,8 +112,8 @@ fn zeros() -> [i64; 128]
 impl Search {
     // The state before the first stage; top is the largest weight, or 0 where none is above it.
     pub fn new(n: u16, m: u16, top: i64) -> Search
-        requires { ⌜ (n ≤ 64) × (m ≤ 2048) ⌝ }
-        ensures { λ r. ⌜ ((edges : List Edge) → length edges ≡ m → topWeight edges ≡ top → runOf r ≡ ok (start (graphOf n edges))) ⌝ }
+        requires { ⌜ (n ≤ 64) × (m ≤ 2048) × (0 < n) × (natAbs top ≤ 4503599627370496) ⌝ }
+        ensures { λ r. ⌜ ((edges : List Edge) → length edges ≡ m → topWeight edges ≡ top → runOf r ≡ ok (start (graphOf n edges))) × Held r × (r .n ≡ n) × (r .m ≡ m) × (r .bad ≡ false) ⌝ }
     {
         let k = n as usize;
         let mut tops = all_64(0);

@@ -10,8 +10,6 @@ use Rattle.laws.proofs.Lists.{length-range, getD-range}
 use Rattle.laws.proofs.Windows.{write-more, write-all}
 use Rattle.search.proofs.state.count_up.Statement.{statement}
 use Rattle.search.proofs.state.count_up.Tie as tie
-use Rattle.search.proofs.state.count_up.Reads as reads
-use Rattle.search.proofs.state.count_up.Lts as lts
 
 abbrev Inv-loop : tie.InvT-loop
 Inv-loop list₀ from i₀ x₀ list i x =

@@ -12,8 +12,6 @@ use mir.ValLaws.{toZ-ofZ}
 use Rattle.laws.proofs.Windows.{write-more, write-all}
 use Rattle.search.proofs.state.fill.Statement.{statement}
 use Rattle.search.proofs.state.fill.Tie as tie
-use Rattle.search.proofs.state.fill.Reads as reads
-use Rattle.search.proofs.state.fill.Lts as lts
 
 abbrev Inv-loop : tie.InvT-loop
 Inv-loop list₀ x i₀ list i =

@@ -8,20 +8,16 @@ use Rattle.labels.specs.View.{LabelFits}
 use Rattle.matching.specs.Graph.{graphOf}
 use Rattle.steps.specs.Steps.{openStage}
 use Rattle.search.specs.View.{stateOf}
-use Rattle.search.proofs.Parts.{Room, room, sized, part, pool-fits, counted-some, counted-none, stays-bad, goes-bad, same, again}
+use Rattle.search.proofs.Parts.{Room, room, sized, part, pool-fits, counted-some, counted-none, stays-bad, goes-bad, same, again, left-over}
 use Rattle.search.proofs.Opened.{stage-opened}
 use Rattle.search.proofs.state.Search.open.Statement.{statement}
 use Rattle.search.proofs.state.Search.open.Tie as tie
-use Rattle.search.proofs.state.Search.open.Reads as reads
-use Rattle.search.proofs.state.Search.open.Lts as lts
-use Rattle.stages.proofs.open.open.Reads as open-reads
-use Rattle.search.proofs.state.Search.failed.Reads as failed-reads
 
 fits : (c : tie.Start) → Room (c .args .self)
-fits c = room (c .args .self) (sized _ _ (c .good .0)) (c .pre)
+fits c = room (c .args .self) (sized _ _ (c .good .0)) (c .pre .0)
 
 returns : tie.Need-returns
-returns c = (λ edges l. stays-bad (c .before .args .self) _ (c .if1 .taken), same (c .before .args .self) (c .before .pre))
+returns c = (λ edges l. stays-bad (c .before .args .self) _ (c .if1 .taken), same (c .before .args .self) (c .before .pre .0))
 
 array-borrow-prefix-labels : tie.Need-array-borrow-prefix-labels
 array-borrow-prefix-labels c = fits (c .before .before .before .before .before .before .before .before .before .before .before .before .before) .labels
@@ -101,7 +97,7 @@ returns-2 c = let s = c .before .before .before .before .before .before .before 
 
 returns-3 : tie.Need-returns-3
 returns-3 c = let s = c .before .before .before .before .before .before .before .before .before .before .before .before .before .before .before .before .before .before .before .before .before .before .before .before .before .before .before .before .before .before .before .before .before .before .before .before .before .before .before .before .before .before .before .args .self in let z = fits (c .before .before .before .before .before .before .before .before .before .before .before .before .before .before .before .before .before .before .before .before .before .before .before .before .before .before .before .before .before .before .before .before .before .before .before .before .before .before .before .before .before .before .before) in let d = c .before .before .before .before .before .before .before .before .before .before .before .before .before .before .before .before .before .before .before .«open» in
-    (λ edges l. stage-opened s z (openStage (graphOf (s .n) edges)) (c .before .before .before .before .before .before .before .before .before .before .before .before .before .before .before .before .before .before .before .before .before .before .before .before .before .before .before .before .before .before .before .before .before .before .before .before .before .before .before .before .before .before .if1 .left) (d .last .0) (d .last .1 .0) (d .last .1 .1 .0) (d .last .1 .1 .1 .0) (d .last .1 .1 .1 .1 .0) (d .last .1 .1 .1 .1 .1 .0) (c .before .before .before .before .before .before .before .before .before .before .before .queued .given .0 .0) (d .kept .0) (d .kept .1 .0) (d .kept .1 .1 .0) (d .kept .1 .1 .1 .0) (d .kept .1 .1 .1 .1 .0) (d .kept .1 .1 .1 .1 .1 .0) (counted-some _ (d .ensures edges (l ∙ part _ _ (z .allowed)) (take (s .n * s .n) (s .lists)) (stateOf s)) (c .before .before .before .before .before .before .before .before .before .before .before .queued .given .1)), again s _ (c .before .before .before .before .before .before .before .before .before .before .before .before .before .before .before .before .before .before .before .before .before .before .before .before .before .before .before .before .before .before .before .before .before .before .before .before .before .before .before .before .before .before .before .pre) refl refl refl)
+    (λ edges l. stage-opened s z (openStage (graphOf (s .n) edges)) (c .before .before .before .before .before .before .before .before .before .before .before .before .before .before .before .before .before .before .before .before .before .before .before .before .before .before .before .before .before .before .before .before .before .before .before .before .before .before .before .before .before .before .if1 .left) (d .last .0) (d .last .1 .0) (d .last .1 .1 .0) (d .last .1 .1 .1 .0) (d .last .1 .1 .1 .1 .0) (d .last .1 .1 .1 .1 .1 .0) (c .before .before .before .before .before .before .before .before .before .before .before .queued .given .0 .0) (d .kept .0) (d .kept .1 .0) (d .kept .1 .1 .0) (d .kept .1 .1 .1 .0) (d .kept .1 .1 .1 .1 .0) (d .kept .1 .1 .1 .1 .1 .0) (counted-some _ (d .ensures edges (l ∙ part _ _ (z .allowed)) (take (s .n * s .n) (s .lists)) (stateOf s)) (c .before .before .before .before .before .before .before .before .before .before .before .queued .given .1)), again s _ (c .before .before .before .before .before .before .before .before .before .before .before .before .before .before .before .before .before .before .before .before .before .before .before .before .before .before .before .before .before .before .before .before .before .before .before .before .before .before .before .before .before .before .before .pre .0) refl refl refl (λ _. left-over s (c .before .before .before .before .before .before .before .before .before .before .before .before .before .before .before .before .before .before .before .before .before .before .before .before .before .before .before .before .before .before .before .before .before .before .before .before .before .before .before .before .before .before .before .pre .0) (c .before .before .before .before .before .before .before .before .before .before .before .before .before .before .before .before .before .before .before .before .before .before .before .before .before .before .before .before .before .before .before .before .before .before .before .before .before .before .before .before .before .before .before .pre .1) refl))
 
 pub open-spec : {M : Type 1} → statement M
 open-spec =
