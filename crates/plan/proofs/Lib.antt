@@ -1,0 +1,7 @@
+pub mod EndLaws
+pub mod PartLaws
+pub mod SettleLaws
+pub mod FillLaws
+pub mod CallLaws
+pub mod Optimal
+pub mod Single
