@@ -1,4 +1,4 @@
--- A signed number's distance from 0 and its text; the text of a pair's line.
+-- A signed number's distance from 0 and its text; the text of a pair's line and of the first line.
 use mathlib.Core.Path.{_≡_, refl, sym, ap, subst, _∙_}
 use mathlib.Core.Bool.{true, false}
 use mathlib.Core.List.{List, [], _∷_, _++_, append-assoc}
@@ -12,8 +12,8 @@ use mir.Val.{Fits, SFits, toZ, ofZ}
 use mir.ValLaws.{toZ-ofZ}
 use borrow.Author.Tests.{ltb-true}
 use Rattle.laws.proofs.Integers.{abs-add, abs-neg, fits-near}
-use Rattle.printed.specs.Text.{minus, decimal, signedDecimal}
-use Rattle.printed.specs.Answer.{Pair, pairLine}
+use Rattle.printed.specs.Text.{minus, decimal, signedDecimal, line}
+use Rattle.printed.specs.Answer.{Pair, pairLine, pairLines, nameDONE}
 
 no-answer : {B : Type 0} → true ≡ false → B
 no-answer e = absurd (subst T e tt)
@@ -69,3 +69,10 @@ pub pair-text : (w : ℤ) → SFits w64 w → {x y lower higher : ℕ} → x ≡
     → ((((decimal x ++ (32 ∷ [])) ++ decimal y) ++ (32 ∷ [])) ++ signedDecimal (toZ w64 (ofZ w64 w))) ++ (10 ∷ []) ≡ pairLine (record { lower = lower; higher = higher; weight = w })
 unfolding pairLine
 pair-text w f {x} {y} {lower} {higher} p q = rw (p, q, toZ-ofZ w64 w f) (fields (decimal lower) (decimal higher) (signedDecimal w))
+
+heading : (a b d : List ℕ) → ((((((68 ∷ 79 ∷ 78 ∷ 69 ∷ 32 ∷ []) ++ a) ++ (32 ∷ [])) ++ b) ++ (32 ∷ [])) ++ d) ++ (10 ∷ []) ≡ line nameDONE (a ∷ b ∷ d ∷ [])
+heading a b d = simp append-assoc
+
+pub head-text : (w : ℤ) → SFits w64 w → (x y : ℕ)
+    → ((((((68 ∷ 79 ∷ 78 ∷ 69 ∷ 32 ∷ []) ++ decimal x) ++ (32 ∷ [])) ++ signedDecimal (toZ w64 (ofZ w64 w))) ++ (32 ∷ [])) ++ decimal y) ++ (10 ∷ []) ≡ line nameDONE (decimal x ∷ signedDecimal w ∷ decimal y ∷ [])
+head-text w f x y = rw (toZ-ofZ w64 w f) (heading (decimal x) (signedDecimal w) (decimal y))

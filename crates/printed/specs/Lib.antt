@@ -1,4 +1,5 @@
 -- The printed answer as bytes.
 pub mod Text
 pub mod Answer
+pub mod Found
 pub mod View
