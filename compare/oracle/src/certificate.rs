@@ -50,7 +50,7 @@ impl Certificate<'_> {
     }
 
     fn dual(&self) -> bool {
-        let within = |dual: &i64| dual.abs() <= 1 << 52;
+        let within = |dual: &i64| dual.unsigned_abs() <= 1 << 52;
         let signed = if self.problem.flag {
             self.problem.nodes
         } else {
