@@ -13,15 +13,16 @@ mod lists;
 mod settle;
 
 use crate::answers::Answer;
-use crate::lists::clear;
-use crate::lists::clear_duals;
-use crate::lists::copy_duals;
-use crate::lists::missing_64;
-use crate::lists::missing_128;
-use crate::lists::zeros_128;
 use crate::settle::settle;
 use certificate::answers::Intake;
 use certificate::intake::refusal;
+use clearing::all_64;
+use clearing::all_128;
+use clearing::clear;
+use clearing::clear_duals;
+use clearing::copy_duals;
+use clearing::zeros_128;
+use numbers::MISSING;
 use numbers::copy;
 
 // The plan of edges that are not refused. The search works in lists of its own: only DONE fills the lent ones.
@@ -41,9 +42,9 @@ fn plan_edges(
 {
     let k = n as usize;
     let j = 2 * k;
-    let mut own_mates = missing_64();
+    let mut own_mates = all_64(MISSING);
     let mut own_duals = zeros_128();
-    let mut own_parents = missing_128();
+    let mut own_parents = all_128(MISSING);
     let answer = settle(
         n,
         first,

@@ -1,5 +1,5 @@
 -- A stage closed: the state by value, made anew of what the routine left.
-use mathlib.Core.Path.{_≡_, refl, sym, ap, _∙_}
+use mathlib.Core.Path.{_≡_, sym, ap, _∙_}
 use mathlib.Core.Bool.{Bool, true, false, not, true≢false}
 use mathlib.Core.List.{List, _++_}
 use Prim.Native.Nat.{ℕ, suc, _*_, _+_, _<_, _≤_}
@@ -7,13 +7,13 @@ use native.Mathlib.Omega.{arith}
 use borrow.Author.Tests.{eq-eqb}
 use lib.Dec.{T, ltb, ltb→lt, nltb→le}
 use lib.ListN.{length, take, drop}
-use Rattle.laws.specs.Run.{Run, ok, fault, andThen, forRange, if_then_else_}
+use Rattle.laws.specs.Run.{ok, fault, andThen, forRange, if_then_else_}
 use Rattle.matching.specs.Graph.{Edge, graphOf}
 use Rattle.expand.specs.View.{emptied}
 use Rattle.steps.specs.State.{State, Phase, opening, ended}
 use Rattle.steps.specs.Steps.{closeGroup, closeStage}
 use Rattle.steps.specs.Plan.{isEnded}
-use Rattle.search.specs.View.{phaseOf, phaseAfter, listsOf, stateOf, runOf}
+use Rattle.search.specs.View.{phaseOf, phaseAfter, stateOf, runOf}
 use Rattle.search.specs.declared.state.Phase.{Phase as PhaseCode}
 use Rattle.search.specs.declared.state.Search.{Search}
 use Rattle.search.proofs.Parts.{Room, anew}

@@ -1,5 +1,5 @@
 -- The lists of the state before the first stage: arrays that hold one number throughout, of which the first n were written anew.
-use mathlib.Core.Path.{_≡_, refl, sym, ap, _∙_}
+use mathlib.Core.Path.{_≡_, ap, _∙_}
 use mathlib.Core.Bool.{Bool, true, false, not}
 use mathlib.Core.List.{List, [], _++_}
 use Prim.Native.Nat.{ℕ, zero, suc, _+_, _*_, _<_, _≤_}
@@ -17,7 +17,7 @@ use Rattle.numbers.specs.Near.{Near}
 use Rattle.numbers.specs.Pools.{pooled}
 use Rattle.numbers.proofs.PoolLaws.{pooled-empty}
 use Rattle.steps.specs.Ends.{topWeight}
-use Rattle.steps.specs.State.{State, opening, start}
+use Rattle.steps.specs.State.{opening, start}
 
 -- a count of 0, read anywhere
 zero-count : (k g : ℕ) → getD {A = ℕ} (replicate k 0) g 0 ≡ 0

@@ -1,7 +1,7 @@
 -- The parts of the state by value that are lent: how long its arrays are, that each has room for the list it holds, and the list that
 -- an array holds after its first part came back anew.
 use mathlib.Core.Path.{_≡_, refl, sym, ap, _∙_}
-use mathlib.Core.Bool.{Bool, true, false}
+use mathlib.Core.Bool.{true, false}
 use mathlib.Core.List.{List, _++_}
 use Prim.Native.Nat.{ℕ, _*_, _<_, _≤_}
 use native.Mathlib.Omega.{arith}
@@ -171,10 +171,6 @@ stays-bad s f h = rw h
 -- a method on a good state whose definition faults
 pub goes-bad : (s : Search) (f : State → Run State) → s .bad ≡ false → f (stateOf s) ≡ fault → fault ≡ andThen (runOf s) f
 goes-bad s f h e = rw (h, e)
-
--- a method on a good state that makes r
-pub makes : (s r : Search) (f : State → Run State) → s .bad ≡ false → r .bad ≡ false → f (stateOf s) ≡ ok (stateOf r) → runOf r ≡ andThen (runOf s) f
-makes s r f h k e = rw (h, k, e)
 
 -- a state as it came keeps its limits
 pub same : (s : Search) → Held s → Kept s s

@@ -13,7 +13,7 @@ use mir.Val.{toZ, ofZ}
 use mir.ValLaws.{toZ-ofZ}
 use Rattle.laws.proofs.Integers.{fits-near}
 use Rattle.laws.specs.Integers.{greater}
-use Rattle.laws.specs.Run.{Run, ok, fault, andThen}
+use Rattle.laws.specs.Run.{ok, fault, andThen}
 use Rattle.matching.specs.Graph.{Edge, Graph, graphOf, isGroup}
 use Rattle.numbers.specs.Edges.{endsOf, weightsOf}
 use Rattle.numbers.specs.Near.{Near}
@@ -21,7 +21,7 @@ use Rattle.steps.specs.Ends.{topWeight}
 use Rattle.steps.specs.State.{State, start}
 use Rattle.steps.specs.Steps.{step}
 use Rattle.steps.specs.Plan.{Ending, finished, spent, broken, isEnded, onward, certificateOf, runBy, run}
-use Rattle.whole.specs.Ran.{Outcome, certified, outcomeOf}
+use Rattle.whole.specs.Ran.{certified, outcomeOf}
 use Rattle.search.specs.View.{phaseOf, stateOf, runOf, Held, Kept}
 use Rattle.search.specs.declared.state.Search.{Search}
 use Rattle.search.proofs.Parts.{good, then-good}

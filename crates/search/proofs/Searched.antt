@@ -1,11 +1,11 @@
 -- A step within a stage: the state by value, made anew of the lists that a routine left, and what its answer says of that.
-use mathlib.Core.Path.{_≡_, refl, sym, ap, _∙_}
+use mathlib.Core.Path.{_≡_, sym, ap, _∙_}
 use mathlib.Core.Bool.{Bool, false}
 use mathlib.Core.List.{List, _++_}
 use Prim.Native.Nat.{ℕ, _*_}
 use lib.IntN.{ℤ}
 use lib.ListN.{length, take, drop}
-use Rattle.laws.specs.Run.{Run, ok, andThen}
+use Rattle.laws.specs.Run.{Run, andThen}
 use Rattle.numbers.specs.Near.{Near}
 use Rattle.steps.specs.State.{State, Phase, searching}
 use Rattle.whole.specs.View.{Lists, lent, entire, progress}

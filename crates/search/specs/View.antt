@@ -1,6 +1,6 @@
 -- What the state by value stands for: each list of the definition is the first entries of its array.
 use mathlib.Core.Path.{_≡_}
-use mathlib.Core.Bool.{Bool, false}
+use mathlib.Core.Bool.{false}
 use Prim.Native.Nat.{ℕ, _*_, _<_, _≤_}
 use lib.Dec.{eqb}
 use lib.ListN.{take}

@@ -16,6 +16,7 @@ ghost use Rattle.whole.specs.Ran.{ranOf, outcomeOf};
 ghost use Rattle.search.specs.View.{phaseOf, Held};
 use crate::state::Phase;
 use crate::state::Search;
+use clearing::copy_duals;
 use numbers::copy;
 use whole::Ran;
 
@@ -37,18 +38,6 @@ fn top_weight(weights: &[i64]) -> i64
         top = greater(top, weights[i]);
     }
     top
-}
-
-// The list `to` becomes a copy of `from`.
-fn copy_signed(from: &[i64], to: &mut [i64])
-    requires { ⌜ (length (now from) ≡ length (now to)) × Near 4503599627370496 (now from) ⌝ }
-    ensures { λ _. ⌜ now (to .exit) ≡ now (from .entry) ⌝ }
-{
-    let mut i = 0;
-    while i < from.len() {
-        to[i] = from[i];
-        i += 1;
-    }
 }
 
 fn is_ended(phase: Phase) -> bool
@@ -74,7 +63,7 @@ impl Search {
         let own_duals = self.duals;
         let own_parents = self.parents;
         copy(&own_mates[..k], mates);
-        copy_signed(&own_duals[..m], duals);
+        copy_duals(&own_duals[..m], duals);
         copy(&own_parents[..m], parents);
     }
 }

@@ -2,7 +2,7 @@
 ghost use mathlib.Core.Path.{_≡_};
 ghost use mathlib.Core.Bool.{false};
 ghost use mathlib.Core.List.{List};
-ghost use lib.IntN.{pos, natAbs};
+ghost use lib.IntN.{natAbs};
 ghost use Prim.Native.Nat.{ℕ, _<_, _≤_, _+_};
 ghost use lib.ListN.{length, replicate};
 ghost use Rattle.laws.specs.Lists.{range};
@@ -11,6 +11,9 @@ ghost use Rattle.matching.specs.Graph.{Edge, graphOf};
 ghost use Rattle.steps.specs.State.{start};
 ghost use Rattle.steps.specs.Ends.{topWeight};
 ghost use Rattle.search.specs.View.{runOf, Held, Kept};
+use clearing::all_64;
+use clearing::all_128;
+use clearing::zeros_128;
 use numbers::MISSING;
 
 // What the next step is.
@@ -79,18 +82,6 @@ fn fill(list: &mut [i64], x: i64)
 }
 
 // Lists that hold one number throughout.
-fn all_64(x: u16) -> [u16; 64]
-    ensures { λ r. ⌜ r ≡ replicate 64 x ⌝ }
-{
-    [x; 64]
-}
-
-fn all_128(x: u16) -> [u16; 128]
-    ensures { λ r. ⌜ r ≡ replicate 128 x ⌝ }
-{
-    [x; 128]
-}
-
 fn empty_pool() -> [u16; 4096]
     ensures { λ r. ⌜ r ≡ replicate 4096 0 ⌝ }
 {
@@ -103,12 +94,6 @@ fn none_allowed() -> [bool; 2048]
     [false; 2048]
 }
 
-fn zeros() -> [i64; 128]
-    ensures { λ r. ⌜ r ≡ replicate 128 (pos 0) ⌝ }
-{
-    [0i64; 128]
-}
-
 impl Search {
     // The state before the first stage; top is the largest weight, or 0 where none is above it.
     pub fn new(n: u16, m: u16, top: i64) -> Search
@@ -119,7 +104,7 @@ impl Search {
         let mut tops = all_64(0);
         let mut bases = all_128(MISSING);
         let mut free = all_64(0);
-        let mut duals = zeros();
+        let mut duals = zeros_128();
         let parents = all_128(MISSING);
         let kids = empty_pool();
         let counts = all_64(0);

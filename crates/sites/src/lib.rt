@@ -15,9 +15,10 @@ ghost use Rattle.sites.specs.View.{Weighs, planText};
 mod lists;
 
 use crate::lists::clear;
-use crate::lists::missing_64;
-use crate::lists::missing_128;
-use crate::lists::zeros_128;
+use clearing::all_64;
+use clearing::all_128;
+use clearing::zeros_128;
+use numbers::MISSING;
 use plan::answers::Answer;
 use plan::plan;
 use printed::answer::put_complaint;
@@ -95,9 +96,9 @@ fn answer_edges(
 {
     let k = n as usize;
     let j = 2 * k;
-    let mut mates = missing_64();
+    let mut mates = all_64(MISSING);
     let mut duals = zeros_128();
-    let mut parents = missing_128();
+    let mut parents = all_128(MISSING);
     answer_lists(
         out,
         n,

@@ -12,8 +12,8 @@ use Rattle.plan.proofs.plan.Tie as tie
 use Rattle.plan.proofs.plan.Reads as reads
 use Rattle.plan.proofs.plan.Lts as lts
 use Rattle.certificate.proofs.intake.refusal.Reads as refusal-reads
-use Rattle.plan.proofs.lists.clear.Reads as clear-reads
-use Rattle.plan.proofs.lists.clear_duals.Reads as clear-duals-reads
+use Rattle.clearing.proofs.clear.Reads as clear-reads
+use Rattle.clearing.proofs.clear_duals.Reads as clear-duals-reads
 use Rattle.plan.proofs.plan_edges.Reads as plan-edges-reads
 
 returns : tie.Need-returns

@@ -14,17 +14,17 @@ use Rattle.plan.proofs.plan_edges.Tie as tie
 use Rattle.plan.proofs.plan_edges.Reads as reads
 use Rattle.plan.proofs.plan_edges.Lts as lts
 use Rattle.numbers.proofs.copy.Reads as copy-reads
-use Rattle.plan.proofs.lists.copy_duals.Reads as copy-duals-reads
-use Rattle.plan.proofs.lists.missing_128.Reads as missing-128-reads
-use Rattle.plan.proofs.lists.missing_64.Reads as missing-64-reads
-use Rattle.plan.proofs.lists.zeros_128.Reads as zeros-128-reads
+use Rattle.clearing.proofs.copy_duals.Reads as copy-duals-reads
+use Rattle.clearing.proofs.all_128.Reads as all-128-reads
+use Rattle.clearing.proofs.all_64.Reads as all-64-reads
+use Rattle.clearing.proofs.zeros_128.Reads as zeros-128-reads
 use Rattle.plan.proofs.settle.settle.Reads as settle-reads
 
 slice-aggregate-settle : tie.Need-slice-aggregate-settle
 slice-aggregate-settle c =
-    let at-missing-64 = c .before .before .before .missing-64 in
+    let at-all-64 = c .before .before .before .all-64 in
     let start = c .before .before .before .before .before .before .before .before in
-    part 64 65535 _ (at-missing-64 .ensures) (start .pre .0 .few-nodes)
+    part 64 65535 _ (at-all-64 .ensures) (start .pre .0 .few-nodes)
 
 slice-aggregate-settle-2 : tie.Need-slice-aggregate-settle-2
 slice-aggregate-settle-2 c =
@@ -34,22 +34,22 @@ slice-aggregate-settle-2 c =
 
 slice-aggregate-settle-3 : tie.Need-slice-aggregate-settle-3
 slice-aggregate-settle-3 c =
-    let at-missing-128 = c .before .before .before .missing-128 in
+    let at-all-128 = c .before .before .before .all-128 in
     let start = c .before .before .before .before .before .before .before .before .before .before in
-    part 128 65535 _ (at-missing-128 .ensures) (omega (arith, start .pre .0 .few-nodes))
+    part 128 65535 _ (at-all-128 .ensures) (omega (arith, start .pre .0 .few-nodes))
 
 settle-requires : tie.Need-settle-requires
 settle-requires c κs =
     let start = c .before .before .before .before .before .before .before .before .before .before in
-    let at-missing-64 = c .before .before .before .before .before .missing-64 in
+    let at-all-64 = c .before .before .before .before .before .all-64 in
     let at-zeros-128 = c .before .before .before .before .zeros-128 in
-    let at-missing-128 = c .before .before .before .missing-128 in (
+    let at-all-128 = c .before .before .before .all-128 in (
       start .pre .0,
       start .pre .1,
       start .pre .2,
-      sym (part 64 65535 _ (at-missing-64 .ensures) (start .pre .0 .few-nodes)),
+      sym (part 64 65535 _ (at-all-64 .ensures) (start .pre .0 .few-nodes)),
       sym (part 128 (pos 0) _ (at-zeros-128 .ensures) (omega (arith, start .pre .0 .few-nodes))),
-      sym (part 128 65535 _ (at-missing-128 .ensures) (omega (arith, start .pre .0 .few-nodes))),
+      sym (part 128 65535 _ (at-all-128 .ensures) (omega (arith, start .pre .0 .few-nodes))),
     )
 
 returns : tie.Need-returns
@@ -59,14 +59,14 @@ returns c =
     stays-cleared _ _ _ _ (start .pre .3) (at-settle .result) _ (c .match .keys2) ∙ at-settle .ensures (room (length (now (start .args .mates))) (length (now (start .args .duals))) (length (now (start .args .parents))))
 
 -- the search's own lists after it
-own-mates : (c : tie.After-settle) → Anew (c .before .before .before .before .before .before .before .before .before .before .before .args .n) (c .settle .last .1 .1 .1 .1 .1 .1 .0) (c .before .before .before .before .before .before .missing-64 .result)
-own-mates c = anew _ _ _ (fits 64 65535 (c .before .before .before .before .before .before .before .before .before .before .before .args .n) (c .before .before .before .before .before .before .missing-64 .ensures) (c .before .before .before .before .before .before .before .before .before .before .before .pre .0 .few-nodes)) (c .settle .kept .1 .1 .1 .1 .1 .1 .0)
+own-mates : (c : tie.After-settle) → Anew (c .before .before .before .before .before .before .before .before .before .before .before .args .n) (c .settle .last .1 .1 .1 .1 .1 .1 .0) (c .before .before .before .before .before .before .all-64 .result)
+own-mates c = anew _ _ _ (fits 64 65535 (c .before .before .before .before .before .before .before .before .before .before .before .args .n) (c .before .before .before .before .before .before .all-64 .ensures) (c .before .before .before .before .before .before .before .before .before .before .before .pre .0 .few-nodes)) (c .settle .kept .1 .1 .1 .1 .1 .1 .0)
 
 own-duals : (c : tie.After-settle) → Anew (2 * c .before .before .before .before .before .before .before .before .before .before .before .args .n) (c .settle .last .1 .1 .1 .1 .1 .1 .1 .0) (c .before .before .before .before .before .zeros-128 .result)
 own-duals c = anew _ _ _ (fits 128 (pos 0) (2 * c .before .before .before .before .before .before .before .before .before .before .before .args .n) (c .before .before .before .before .before .zeros-128 .ensures) (omega (arith, c .before .before .before .before .before .before .before .before .before .before .before .pre .0 .few-nodes))) (c .settle .kept .1 .1 .1 .1 .1 .1 .1 .0)
 
-own-parents : (c : tie.After-settle) → Anew (2 * c .before .before .before .before .before .before .before .before .before .before .before .args .n) (c .settle .last .1 .1 .1 .1 .1 .1 .1 .1 .0) (c .before .before .before .before .missing-128 .result)
-own-parents c = anew _ _ _ (fits 128 65535 (2 * c .before .before .before .before .before .before .before .before .before .before .before .args .n) (c .before .before .before .before .missing-128 .ensures) (omega (arith, c .before .before .before .before .before .before .before .before .before .before .before .pre .0 .few-nodes))) (c .settle .kept .1 .1 .1 .1 .1 .1 .1 .1 .0)
+own-parents : (c : tie.After-settle) → Anew (2 * c .before .before .before .before .before .before .before .before .before .before .before .args .n) (c .settle .last .1 .1 .1 .1 .1 .1 .1 .1 .0) (c .before .before .before .before .all-128 .result)
+own-parents c = anew _ _ _ (fits 128 65535 (2 * c .before .before .before .before .before .before .before .before .before .before .before .args .n) (c .before .before .before .before .all-128 .ensures) (omega (arith, c .before .before .before .before .before .before .before .before .before .before .before .pre .0 .few-nodes))) (c .settle .kept .1 .1 .1 .1 .1 .1 .1 .1 .0)
 
 array-share-prefix-own-mates : tie.Need-array-share-prefix-own-mates
 array-share-prefix-own-mates c =

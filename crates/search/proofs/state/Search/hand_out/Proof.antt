@@ -19,11 +19,11 @@ copy-requires c κs = sym (part _ _ (fits (c .before .before .before .before .be
 array-share-prefix-own-duals : tie.Need-array-share-prefix-own-duals
 array-share-prefix-own-duals c = fits (c .before .before .before .before .before .before .before .before .before .before .before) .duals
 
-slice-aggregate-copy-signed : tie.Need-slice-aggregate-copy-signed
-slice-aggregate-copy-signed c = part _ _ (fits (c .before .before .before .before .before .before .before .before .before .before .before .before) .duals)
+slice-aggregate-copy-duals : tie.Need-slice-aggregate-copy-duals
+slice-aggregate-copy-duals c = part _ _ (fits (c .before .before .before .before .before .before .before .before .before .before .before .before) .duals)
 
-copy-signed-requires : tie.Need-copy-signed-requires
-copy-signed-requires c κs = (sym (part _ _ (fits (c .before .before .before .before .before .before .before .before .before .before .before .before .before) .duals)) ∙ sym (c .before .before .before .before .before .before .before .before .before .before .before .before .before .pre .2), c .before .before .before .before .before .before .before .before .before .before .before .before .before .pre .0 .near)
+copy-duals-requires : tie.Need-copy-duals-requires
+copy-duals-requires c κs = sym (part _ _ (fits (c .before .before .before .before .before .before .before .before .before .before .before .before .before) .duals)) ∙ sym (c .before .before .before .before .before .before .before .before .before .before .before .before .before .pre .2)
 
 array-share-prefix-own-parents : tie.Need-array-share-prefix-own-parents
 array-share-prefix-own-parents c = fits (c .before .before .before .before .before .before .before .before .before .before .before .before .before .before .before) .parents
@@ -44,8 +44,8 @@ hand-out-spec =
     slice-aggregate-copy
     copy-requires
     array-share-prefix-own-duals
-    slice-aggregate-copy-signed
-    copy-signed-requires
+    slice-aggregate-copy-duals
+    copy-duals-requires
     array-share-prefix-own-parents
     slice-aggregate-copy-2
     copy-requires-2

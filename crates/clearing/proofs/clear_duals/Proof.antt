@@ -7,10 +7,10 @@ use denote.Ref.{now}
 use lib.IntN.{ℤ, pos}
 use lib.ListN.{length, getD, set, take, drop, replicate, length-set, length-replicate, getD-replicate}
 use Rattle.laws.proofs.Windows.{write-more, write-all}
-use Rattle.plan.proofs.lists.clear_duals.Statement.{statement}
-use Rattle.plan.proofs.lists.clear_duals.Tie as tie
-use Rattle.plan.proofs.lists.clear_duals.Reads as reads
-use Rattle.plan.proofs.lists.clear_duals.Lts as lts
+use Rattle.clearing.proofs.clear_duals.Statement.{statement}
+use Rattle.clearing.proofs.clear_duals.Tie as tie
+use Rattle.clearing.proofs.clear_duals.Reads as reads
+use Rattle.clearing.proofs.clear_duals.Lts as lts
 
 abbrev Inv-loop : tie.InvT-loop
 Inv-loop list₀ k₀ k-end list k =

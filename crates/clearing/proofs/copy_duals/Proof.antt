@@ -8,10 +8,10 @@ use lib.ListN.{length, getD, set, take, length-set}
 use mir.Syntax.{w64}
 use mir.ValLaws.{toZ-ofZ}
 use Rattle.laws.proofs.Windows.{copy-next, copy-end}
-use Rattle.plan.proofs.lists.copy_duals.Statement.{statement}
-use Rattle.plan.proofs.lists.copy_duals.Tie as tie
-use Rattle.plan.proofs.lists.copy_duals.Reads as reads
-use Rattle.plan.proofs.lists.copy_duals.Lts as lts
+use Rattle.clearing.proofs.copy_duals.Statement.{statement}
+use Rattle.clearing.proofs.copy_duals.Tie as tie
+use Rattle.clearing.proofs.copy_duals.Reads as reads
+use Rattle.clearing.proofs.copy_duals.Lts as lts
 
 abbrev Inv-loop : tie.InvT-loop
 Inv-loop from to₀ i₀ to i = (i ≤ length from) × (length to ≡ length to₀) × (take i to ≡ take i from)

@@ -6,10 +6,10 @@ use native.Mathlib.Omega.{arith}
 use borrow.Author.Fill.{fill-more}
 use denote.Ref.{now}
 use lib.ListN.{length, drop, replicate, length-set, drop-of-length-le}
-use Rattle.plan.proofs.lists.clear.Statement.{statement}
-use Rattle.plan.proofs.lists.clear.Tie as tie
-use Rattle.plan.proofs.lists.clear.Reads as reads
-use Rattle.plan.proofs.lists.clear.Lts as lts
+use Rattle.clearing.proofs.clear.Statement.{statement}
+use Rattle.clearing.proofs.clear.Tie as tie
+use Rattle.clearing.proofs.clear.Reads as reads
+use Rattle.clearing.proofs.clear.Lts as lts
 
 abbrev Inv-loop : tie.InvT-loop
 Inv-loop list₀ k₀ k-end list k =
