@@ -1,0 +1,4 @@
+pub mod Laid
+pub mod Rows
+pub mod Told
+pub mod CallLaws
