@@ -125,8 +125,16 @@ pub record Reading : Type 0 where
 abbrev pub unread : Head
 unread = record { opened = false; gone = false; flagged = false; budgeted = false; nodes = 0; flag = false; budget = 0 }
 
+-- nothing has been read, and the first record is at this place
+abbrev pub startAt : (place : ℕ) → Reading
+startAt place = record { place = place; head = unread; times = []; edges = [] }
+
+-- the same reading, with its next record at this place
+abbrev pub moved : (place : ℕ) → Reading → Reading
+moved place s = record { place = place; head = s .head; times = s .times; edges = s .edges }
+
 abbrev pub beginning : Reading
-beginning = record { place = 0; head = unread; times = []; edges = [] }
+beginning = startAt 0
 
 -- No B means 8·n·(n+1)
 unfoldable pub budgetOf : Head → ℕ

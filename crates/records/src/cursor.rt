@@ -1,6 +1,8 @@
 // Numbers at a place of a file, little-endian; a byte past the file's end reads as 0. And the kind that a byte names.
 ghost use mathlib.Core.Path.{_≡_};
 ghost use Prim.Native.Nat.{ℕ, _+_};
+ghost use lib.Dec.{leb};
+ghost use lib.ListN.{length};
 ghost use Rattle.records.specs.Site.{byteAt, wordAt, longAt, signed as signedOf, kindOf, body as bodyOf};
 ghost use Rattle.records.specs.View.{namedOf, kindView};
 
@@ -88,6 +90,20 @@ pub fn kind_of(b: u8) -> Named
         71 => Named::Known(Kind::G),
         _ => Named::Unknown,
     }
+}
+
+// The kind of the record at a place.
+pub fn kind_at(file: &[u8], at: usize) -> Named
+    ensures { λ r. ⌜ namedOf r ≡ kindOf (byteAt (now (file .entry)) at) ⌝ }
+{
+    kind_of(byte_at(file, at, 0))
+}
+
+// No record is left at a place.
+pub fn ended_at(file: &[u8], at: usize) -> bool
+    ensures { λ r. ⌜ r ≡ leb (length (now (file .entry))) at ⌝ }
+{
+    file.len() <= at
 }
 
 // How many bytes the body of a kind has.

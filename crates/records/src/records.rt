@@ -5,7 +5,7 @@ ghost use Prim.Native.Nat.{ℕ, min, _+_, _<_, _≤_};
 ghost use lib.IntN.{ℤ, pos};
 ghost use lib.ListN.{length};
 ghost use Rattle.steps.specs.Refusals.{maxNodes, maxEdges};
-ghost use Rattle.records.specs.Site.{misplaced as misplacedOf, takeNodes, takeFlag, takeBudget, takeEdge, takeTime, takeJoin, takeGo, takeBody, judge};
+ghost use Rattle.records.specs.Site.{misplaced as misplacedOf, takeNodes, takeFlag, takeBudget, takeEdge, takeTime, takeJoin, takeGo, takeBody, moved, judge};
 ghost use Rattle.records.specs.View.{headOf, viewOf, nextOf, kindView, Sound, SoundNext};
 use crate::cursor::Kind;
 use crate::cursor::Named;
@@ -317,4 +317,22 @@ pub fn take_record(
         return Next::Stopped(Complaint::Cut);
     }
     take_body(file, k, s, first, second, weight, times)
+}
+
+// The record at a place, wherever the reading had come to.
+pub fn take_at(
+    file: &[u8],
+    at: usize,
+    s: Reading,
+    first: &mut [u16],
+    second: &mut [u16],
+    weight: &mut [i64],
+    times: &mut [u32],
+) -> Next
+    requires { ⌜ (at < 65536) × (at < length (now file)) × Sound s × (maxEdges ≤ length (now first)) × (maxEdges ≤ length (now second)) × (maxEdges ≤ length (now weight)) × (maxNodes ≤ length (now times)) ⌝ }
+    ensures { λ r. ⌜ nextOf r (now (first .exit)) (now (second .exit)) (now (weight .exit)) (now (times .exit)) ≡ judge (now (file .entry)) (moved at (viewOf s (now (first .entry)) (now (second .entry)) (now (weight .entry)) (now (times .entry)))) ⌝ }
+{
+    let mut t = s;
+    t.place = at;
+    take_record(file, t, first, second, weight, times)
 }

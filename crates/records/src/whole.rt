@@ -3,12 +3,14 @@ ghost use mathlib.Core.Path.{_≡_};
 ghost use Prim.Native.Nat.{ℕ, min, _+_, _*_, _<_, _≤_};
 ghost use lib.ListN.{length};
 ghost use Rattle.steps.specs.Refusals.{maxNodes, maxEdges};
-ghost use Rattle.records.specs.Site.{budgetOf, readRecords, readSite};
+ghost use Rattle.records.specs.Site.{budgetOf, readFrom, readRecords, readSite, startAt};
 ghost use Rattle.records.specs.View.{Sound, headOf};
 ghost use Rattle.records.specs.WholeView.{siteView, SoundSite, edgeCount, ReadAs};
 use crate::lists::UNTIMED;
 use crate::lists::clear_nodes;
 use crate::lists::clear_weights;
+use crate::reader::open;
+use crate::reader::read_on;
 use crate::records::Complaint;
 use crate::records::MAX_EDGES;
 use crate::records::Next;
@@ -43,21 +45,20 @@ pub fn budget_of(s: Reading) -> u32
     8 * n * (n + 1)
 }
 
-// The records of a file, one after another.
-pub fn read_records(
+// The records from a place on, one after another.
+pub fn read_from(
     file: &[u8],
+    at: usize,
     first: &mut [u16],
     second: &mut [u16],
     weight: &mut [i64],
     times: &mut [u32],
 ) -> Site
-    requires { ⌜ length (now file) ≤ 65536 ⌝ }
-    requires { ⌜ (maxEdges ≤ length (now first)) × (maxEdges ≤ length (now second)) × (maxEdges ≤ length (now weight)) × (maxNodes ≤ length (now times)) ⌝ }
-    ensures { λ r. ⌜ siteView r (now (first .exit)) (now (second .exit)) (now (weight .exit)) ≡ readRecords (now (file .entry)) ⌝ }
-    ensures { λ r. ⌜ SoundSite r ⌝ }
+    requires { ⌜ (length (now file) ≤ 65536) × (maxEdges ≤ length (now first)) × (maxEdges ≤ length (now second)) × (maxEdges ≤ length (now weight)) × (maxNodes ≤ length (now times)) ⌝ }
+    ensures { λ r. ⌜ (siteView r (now (first .exit)) (now (second .exit)) (now (weight .exit)) ≡ readFrom (length (now (file .entry))) (now (file .entry)) (startAt at)) × SoundSite r ⌝ }
 {
     let mut s = Reading {
-        place: 0,
+        place: at,
         opened: false,
         gone: false,
         flagged: false,
@@ -89,6 +90,20 @@ pub fn read_records(
         budget,
         edges: s.count,
     })
+}
+
+// The records of a file, one after another.
+pub fn read_records(
+    file: &[u8],
+    first: &mut [u16],
+    second: &mut [u16],
+    weight: &mut [i64],
+    times: &mut [u32],
+) -> Site
+    requires { ⌜ (length (now file) ≤ 65536) × (maxEdges ≤ length (now first)) × (maxEdges ≤ length (now second)) × (maxEdges ≤ length (now weight)) × (maxNodes ≤ length (now times)) ⌝ }
+    ensures { λ r. ⌜ (siteView r (now (first .exit)) (now (second .exit)) (now (weight .exit)) ≡ readRecords (now (file .entry))) × SoundSite r ⌝ }
+{
+    read_on(open(file), first, second, weight, times)
 }
 
 // LONG, then BUFFER, then the records.
