@@ -9,11 +9,11 @@ use Rattle.check_replay.proofs.judge.Lts as lts
 use Rattle.certificate.proofs.answers.verdict_number.Reads as verdict-number-reads
 use Rattle.certificate.proofs.answers.verdict_place.Reads as verdict-place-reads
 use Rattle.certificate.proofs.check.Reads as check-reads
-use Rattle.check_replay.proofs.amounts.Reads as amounts-reads
-use Rattle.check_replay.proofs.length.Reads as length-reads
-use Rattle.check_replay.proofs.number.Reads as number-reads
-use Rattle.check_replay.proofs.numbers.Reads as numbers-reads
-use Rattle.check_replay.proofs.say.Reads as say-reads
+use Rattle.replays.proofs.amounts.Reads as amounts-reads
+use Rattle.replays.proofs.length.Reads as length-reads
+use Rattle.replays.proofs.number.Reads as number-reads
+use Rattle.replays.proofs.numbers.Reads as numbers-reads
+use Rattle.replays.proofs.say.Reads as say-reads
 
 array-share-prefix-first : tie.Need-array-share-prefix-first
 array-share-prefix-first c = omega (arith, c .before .before .before .before .before .before .before .before .before .before .before .before .before .before .before .before .before .length .ensures, c .before .before .before .before .before .before .before .before .before .before .numbers .ensures)
@@ -88,7 +88,9 @@ judge-spec =
     slice-aggregate-check-6
     (λ c κs. search needs)
     (λ c κs. search needs)
+    (λ c. search needs)
     (λ c κs. search needs)
     (λ c κs. search needs)
+    (λ c. search needs)
     (λ c κs. search needs)
     (λ c. search needs))

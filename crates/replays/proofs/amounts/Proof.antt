@@ -2,11 +2,11 @@ use Prim.Native.Nat.{_-_, _≤_}
 use mathlib.Core.Path.{_≡_}
 use lib.ListN.{length}
 use borrow.Author.Needs.{needs}
-use Rattle.check_replay.proofs.amounts.Statement.{statement}
-use Rattle.check_replay.proofs.amounts.Tie as tie
-use Rattle.check_replay.proofs.amounts.Reads as reads
-use Rattle.check_replay.proofs.amounts.Lts as lts
-use Rattle.check_replay.proofs.amount.Reads as amount-reads
+use Rattle.replays.proofs.amounts.Statement.{statement}
+use Rattle.replays.proofs.amounts.Tie as tie
+use Rattle.replays.proofs.amounts.Reads as reads
+use Rattle.replays.proofs.amounts.Lts as lts
+use Rattle.replays.proofs.amount.Reads as amount-reads
 
 abbrev Inv-loop : tie.InvT-loop
 Inv-loop list₀ k i₀ list i = (i ≤ k) × (length list ≡ 2112)
@@ -14,35 +14,27 @@ Inv-loop list₀ k i₀ list i = (i ≤ k) × (length list ≡ 2112)
 abbrev μ-loop : tie.MeasureT-loop
 μ-loop list₀ k i₀ list i = k - i
 
--- src/main.rt:75:5
 loop-holds : tie.Need-loop-holds Inv-loop μ-loop
 loop-holds c = search needs
 
--- src/main.rt:76:19
 amount-requires : tie.Need-amount-requires Inv-loop μ-loop
 amount-requires c κs = search needs
 
--- src/main.rt:76:9
 mul-t6 : tie.Need-mul-t6 Inv-loop μ-loop
 mul-t6 c = search needs
 
--- src/main.rt:76:9
 element-set-from-list : tie.Need-element-set-from-list Inv-loop μ-loop
 element-set-from-list c = search needs
 
--- src/main.rt:75:9
 add-i : tie.Need-add-i Inv-loop μ-loop
 add-i c = search needs
 
--- src/main.rt:75:5
 loop-less : tie.Need-loop-less Inv-loop μ-loop
 loop-less c = search needs
 
--- src/main.rt:75:5
 loop-again : tie.Need-loop-again Inv-loop μ-loop
 loop-again c = search needs
 
--- src/main.rt:72:1
 returns : tie.Need-returns Inv-loop μ-loop
 returns c = search needs
 

@@ -2,11 +2,11 @@ use Prim.Native.Nat.{_-_, _≤_}
 use mathlib.Core.Path.{_≡_}
 use lib.ListN.{length}
 use borrow.Author.Needs.{needs}
-use Rattle.check_replay.proofs.numbers.Statement.{statement}
-use Rattle.check_replay.proofs.numbers.Tie as tie
-use Rattle.check_replay.proofs.numbers.Reads as reads
-use Rattle.check_replay.proofs.numbers.Lts as lts
-use Rattle.check_replay.proofs.number.Reads as number-reads
+use Rattle.replays.proofs.numbers.Statement.{statement}
+use Rattle.replays.proofs.numbers.Tie as tie
+use Rattle.replays.proofs.numbers.Reads as reads
+use Rattle.replays.proofs.numbers.Lts as lts
+use Rattle.replays.proofs.number.Reads as number-reads
 
 abbrev Inv-loop : tie.InvT-loop
 Inv-loop list₀ k i₀ list i = (i ≤ k) × (length list ≡ 2112)
@@ -14,35 +14,27 @@ Inv-loop list₀ k i₀ list i = (i ≤ k) × (length list ≡ 2112)
 abbrev μ-loop : tie.MeasureT-loop
 μ-loop list₀ k i₀ list i = k - i
 
--- src/main.rt:67:5
 loop-holds : tie.Need-loop-holds Inv-loop μ-loop
 loop-holds c = search needs
 
--- src/main.rt:68:19
 number-requires : tie.Need-number-requires Inv-loop μ-loop
 number-requires c κs = search needs
 
--- src/main.rt:68:9
 mul-list : tie.Need-mul-list Inv-loop μ-loop
 mul-list c = search needs
 
--- src/main.rt:68:9
 element-write-list : tie.Need-element-write-list Inv-loop μ-loop
 element-write-list c = search needs
 
--- src/main.rt:67:9
 add-i : tie.Need-add-i Inv-loop μ-loop
 add-i c = search needs
 
--- src/main.rt:67:5
 loop-less : tie.Need-loop-less Inv-loop μ-loop
 loop-less c = search needs
 
--- src/main.rt:67:5
 loop-again : tie.Need-loop-again Inv-loop μ-loop
 loop-again c = search needs
 
--- src/main.rt:64:1
 returns : tie.Need-returns Inv-loop μ-loop
 returns c = search needs
 
