@@ -1,5 +1,5 @@
 -- A step within a stage: the state by value, made anew of the lists that a routine left, and what its answer says of that.
-use mathlib.Core.Path.{_≡_, sym, ap, _∙_}
+use mathlib.Core.Path.{_≡_, refl, sym, ap, _∙_}
 use mathlib.Core.Bool.{Bool, false}
 use mathlib.Core.List.{List, _++_}
 use Prim.Native.Nat.{ℕ, _*_}
@@ -11,10 +11,10 @@ use Rattle.steps.specs.State.{State, Phase, searching}
 use Rattle.whole.specs.View.{Lists, lent, entire, progress}
 use Rattle.whole.specs.Ran.{wentTo}
 use Rattle.whole.specs.declared.Went.{Went}
-use Rattle.search.specs.View.{phaseOf, listsOf, stateOf, runOf, Held, Kept}
-use Rattle.search.specs.declared.state.Phase.{Phase as PhaseCode}
+use Rattle.search.specs.View.{phaseOf, leftTo, listsOf, stateOf, runOf, Held, Kept}
+use Rattle.search.specs.declared.searching.Left.{Left}
 use Rattle.search.specs.declared.state.Search.{Search}
-use Rattle.search.proofs.Parts.{Room, anew, then-good}
+use Rattle.search.proofs.Parts.{Room, anew, then-good, left-over}
 
 -- ---- the lists that came back
 
@@ -137,12 +137,12 @@ pub counts-cut : (s : Search) (queued unused : ℕ) → take queued (take (2 * s
     → entire (s .n) (listsOf s) queued unused (progress (s .stage) searching) ≡ stateOf s
 counts-cut s queued unused a b p = rw (a, b) (ap (λ (q : Phase). entire (s .n) (listsOf s) (s .queued) (s .unused) (progress (s .stage) q)) (sym p))
 
--- a state with these counts and in this phase next
-module _ (s : Search) (queued unused : ℕ) (phase : PhaseCode) where
+-- a state with these lists, and what a step left besides
+module _ (s : Search) (x : Left) where
   abbrev pub gone : Search
   gone =
       record {
-        bad = s .bad;
+        bad = x .bad;
         n = s .n;
         m = s .m;
         tops = s .tops;
@@ -152,7 +152,7 @@ module _ (s : Search) (queued unused : ℕ) (phase : PhaseCode) where
         links = s .links;
         counts = s .counts;
         free = s .free;
-        unused = unused;
+        unused = x .unused;
         labels = s .labels;
         «label_ends» = s .«label_ends»;
         best = s .best;
@@ -160,26 +160,31 @@ module _ (s : Search) (queued unused : ℕ) (phase : PhaseCode) where
         sizes = s .sizes;
         allowed = s .allowed;
         queue = s .queue;
-        queued = queued;
+        queued = x .queued;
         mates = s .mates;
         duals = s .duals;
         stage = s .stage;
-        phase = phase;
+        phase = x .phase;
       }
 
--- an answer known
-pub answered : (s : Search) {w v : Went} (over : Phase) → w ≡ v
-    → wentTo v searching over (λ k u p. entire (s .n) (listsOf s) k u (progress (s .stage) p)) ≡ wentTo w searching over (λ k u p. entire (s .n) (listsOf s) k u (progress (s .stage) p))
-answered s over e = sym (ap (λ (w : Went). wentTo w searching over (λ k u p. entire (s .n) (listsOf s) k u (progress (s .stage) p))) e)
-
--- t has the lists that came back, and r is t after the answer
-pub went-on : (s t r : Search) (f : State → Run State) (w : Went) (over : Phase) (l : Lists) → s .bad ≡ false → listsOf t ≡ l
-    → runOf r ≡ wentTo w searching over (λ k u p. entire (s .n) (listsOf t) k u (progress (s .stage) p))
+-- t has the lists that came back, and x is what the answer says of the rest
+pub went-on : (s t : Search) (x : Left) (f : State → Run State) (w : Went) (over : Phase) (l : Lists) → s .bad ≡ false → t .n ≡ s .n → t .stage ≡ s .stage → listsOf t ≡ l
+    → ((g : ℕ → ℕ → Phase → State) → leftTo x g ≡ wentTo w searching over g)
     → wentTo w searching over (λ k u p. entire (s .n) l k u (progress (s .stage) p)) ≡ f (stateOf s)
-    → runOf r ≡ andThen (runOf s) f
-went-on s t r f w over l h a q e =
-    q ∙ ap (λ (x : Lists). wentTo w searching over (λ k u p. entire (s .n) x k u (progress (s .stage) p))) a ∙ e ∙ sym (then-good s f h)
+    → runOf (gone t x) ≡ andThen (runOf s) f
+went-on s t x f w over l h a b c q e =
+    q (λ k u p. entire (t .n) (listsOf t) k u (progress (t .stage) p))
+    ∙ ap (λ (m : ℕ). wentTo w searching over (λ k u p. entire m (listsOf t) k u (progress (t .stage) p))) a
+    ∙ ap (λ (m : ℕ). wentTo w searching over (λ k u p. entire (s .n) (listsOf t) k u (progress m p))) b
+    ∙ ap (λ (x : Lists). wentTo w searching over (λ k u p. entire (s .n) x k u (progress (s .stage) p))) c
+    ∙ e
+    ∙ sym (then-good s f h)
 
--- r keeps what t keeps
-pub kept-on : (s t r : Search) → t .n ≡ s .n → t .m ≡ s .m → Kept t r → Kept s r
-kept-on s t r a b k = record { held = k .held; nodes = k .nodes ∙ a; edges = k .edges ∙ b }
+-- a step within a stage keeps the limits
+pub kept-on : (s t : Search) (x : Left) → Held s → phaseOf (s .phase) ≡ searching → t .n ≡ s .n → t .m ≡ s .m → t .stage ≡ s .stage → Near 4503599627370496 (take (2 * t .n) (t .duals)) → Kept s (gone t x)
+kept-on s t x h p a b c d =
+    record {
+      held = record { few = rw a (h .few); fit = rw b (h .fit); near = d; going = λ _. rw (a, c) (left-over s h p refl) };
+      nodes = a;
+      edges = b;
+    }

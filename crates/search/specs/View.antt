@@ -12,12 +12,17 @@ use Rattle.whole.specs.View.{Lists, lent, entire, progress}
 use Rattle.search.specs.declared.state.Phase.{Phase as PhaseCode}
 use Rattle.search.specs.declared.state.Phase.the-variants as phase
 use Rattle.search.specs.declared.state.Search.{Search}
+use Rattle.search.specs.declared.searching.Left.{Left}
 
 abbrev pub phaseOf : PhaseCode → Phase
 phaseOf phase.Opening = opening
 phaseOf phase.Searching = searching
 phaseOf phase.Closing = closing
 phaseOf phase.Ended = ended
+
+-- what a step leaves besides the lists, and the state f that has that
+abbrev pub leftTo : Left → (ℕ → ℕ → Phase → State) → Run State
+leftTo x f = if x .bad then fault else ok (f (x .queued) (x .unused) (phaseOf (x .phase)))
 
 abbrev pub listsOf : Search → Lists
 listsOf s =

@@ -1,18 +1,17 @@
 // The two steps within a stage: taking a node, and adjusting the duals.
 ghost use mathlib.Core.Path.{_≡_};
-ghost use mathlib.Core.Bool.{false};
 ghost use mathlib.Core.List.{List};
 ghost use Prim.Native.Nat.{ℕ, _≤_};
 ghost use lib.ListN.{length, take};
 ghost use Rattle.laws.specs.Run.{andThen};
 ghost use Rattle.matching.specs.Graph.{Edge, graphOf, isGroup};
 ghost use Rattle.numbers.specs.Edges.{endsOf, weightsOf};
-ghost use Rattle.steps.specs.State.{searching};
+ghost use Rattle.steps.specs.State.{State, Phase as PhaseOf, searching};
 ghost use Rattle.steps.specs.Steps.{takeNode};
 ghost use Rattle.steps.specs.Adjust.{adjustDuals};
-ghost use Rattle.whole.specs.View.{entire, progress, Edged, Table};
+ghost use Rattle.whole.specs.View.{Edged, Table};
 ghost use Rattle.whole.specs.Ran.{wentTo};
-ghost use Rattle.search.specs.View.{phaseOf, listsOf, runOf, Held, Kept};
+ghost use Rattle.search.specs.View.{phaseOf, leftTo, runOf, Held, Kept};
 use crate::state::Phase;
 use crate::state::Search;
 use adjusting::adjust::adjust;
@@ -26,29 +25,41 @@ fn at_most(count: u16, limit: u16) -> u16
     if count < limit { count } else { limit }
 }
 
-impl Search {
-    // The lists are as a step left them; how it went says the rest. Over is the phase after a step with nothing more to do.
-    pub fn after(self, went: Went, over: Phase) -> Search
-        requires { ⌜ Held self × (phaseOf (self .phase) ≡ searching) ⌝ }
-        ensures { λ r. ⌜ (self .bad ≡ false → runOf r ≡ wentTo went searching (phaseOf over) (λ k u p. entire (self .n) (listsOf self) k u (progress (self .stage) p))) × Kept self r ⌝ }
-    {
-        match went {
-            Went::On(queued, unused) => Search {
-                queued,
-                unused,
-                phase: Phase::Searching,
-                ..self
-            },
-            Went::Over(queued, unused) => Search {
-                queued,
-                unused,
-                phase: over,
-                ..self
-            },
-            Went::Bad => self.failed(),
-        }
-    }
+// What a step leaves besides the lists.
+pub struct Left {
+    pub bad: bool,
+    pub queued: u16,
+    pub unused: u16,
+    pub phase: Phase,
+}
 
+// What a step's answer says of that. Over is the phase after a step with nothing more to do.
+fn left_by(went: Went, over: Phase) -> Left
+    ensures { λ r. ⌜ ((f : ℕ → ℕ → PhaseOf → State) → leftTo r f ≡ wentTo went searching (phaseOf over) f) ⌝ }
+{
+    match went {
+        Went::On(k, u) => Left {
+            bad: false,
+            queued: k,
+            unused: u,
+            phase: Phase::Searching,
+        },
+        Went::Over(k, u) => Left {
+            bad: false,
+            queued: k,
+            unused: u,
+            phase: over,
+        },
+        Went::Bad => Left {
+            bad: true,
+            queued: 0,
+            unused: 0,
+            phase: over,
+        },
+    }
+}
+
+impl Search {
     // The last node of the queue is taken, and its neighbours are visited.
     pub fn take(self, ends: &[u16], weights: &[i64], offsets: &[u16], far: &[u16]) -> Search
         requires { ⌜ Held self × (phaseOf (self .phase) ≡ searching) × Table (self .n) (now ends) (now weights) (now offsets) (now far) × (length (now weights) ≡ self .m) ⌝ }
@@ -103,7 +114,9 @@ impl Search {
             &mut duals[..m],
             self.n,
         );
-        let s = Search {
+        let left = left_by(went, Phase::Closing);
+        let phase = left.phase;
+        Search {
             labels,
             label_ends,
             best,
@@ -119,9 +132,12 @@ impl Search {
             lists,
             sizes,
             duals,
+            bad: left.bad,
+            queued: left.queued,
+            unused: left.unused,
+            phase,
             ..self
-        };
-        s.after(went, Phase::Closing)
+        }
     }
 
     // The duals are adjusted, and what that allows is followed.
@@ -171,7 +187,9 @@ impl Search {
             self.n,
             flag,
         );
-        let s = Search {
+        let left = left_by(went, Phase::Ended);
+        let phase = left.phase;
+        Search {
             labels,
             label_ends,
             best,
@@ -183,8 +201,11 @@ impl Search {
             counts,
             free,
             duals,
+            bad: left.bad,
+            queued: left.queued,
+            unused: left.unused,
+            phase,
             ..self
-        };
-        s.after(went, Phase::Ended)
+        }
     }
 }
