@@ -7,8 +7,8 @@ use Prim.Native.Nat.{ℕ, _<_, _≤_}
 use lib.ListN.{length}
 use Rattle.laws.specs.Run.{Run, ok, fault, Popped, pop}
 use Rattle.laws.proofs.Runs.{not-ok}
+use Rattle.laws.proofs.Times.{less-or-not}
 use Rattle.matching.specs.Graph.{Graph}
-use Rattle.edges.proofs.Counts.{less-or-not}
 use Rattle.steps.specs.State.{State}
 use Rattle.steps.specs.Stores.{withFree}
 use Rattle.steps.specs.Add.{fitChildren, ringUp, settle, bestEdges, addGroup}

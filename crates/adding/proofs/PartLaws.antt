@@ -1,5 +1,5 @@
 -- A group is added by its ring and what is made of it.
-use mathlib.Core.Path.{_≡_, refl, sym, ap, _∙_}
+use mathlib.Core.Path.{_≡_, refl, sym, _∙_}
 use mathlib.Core.Bool.{Bool, true, false, not, _&&_}
 use mathlib.Core.List.{List, [], _∷_, _++_, reverse, map}
 use Prim.Native.Nat.{ℕ, _*_}
@@ -13,7 +13,7 @@ use Rattle.steps.specs.State.{State}
 use Rattle.steps.specs.Stores.{withFree}
 use Rattle.steps.specs.Leaves.{leavesOf}
 use Rattle.steps.specs.Add.{Trace, trace, fitChildren, ringUp, settle, takeIn, bestEdges, addGroup}
-use Rattle.adding.specs.Parts.{Meeting, Ring, meetingOf, joined, ringOf, takeNodes, makeGroup}
+use Rattle.adding.specs.Parts.{Meeting, meetingOf, joined, ringOf, takeNodes, makeGroup}
 
 -- what comes after a part, as a whole
 then-under : {A B C : Type 0} (m : Run A) (f : A → Run B) (g : B → Run C) (h : A → Run C) → ((a : A) → h a ≡ andThen (f a) g) → andThen m h ≡ andThen (andThen m f) g

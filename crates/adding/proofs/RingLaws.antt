@@ -1,13 +1,13 @@
 -- Each way through the ring: the meeting of the two paths, the ring's lists, and the ring stored.
-use mathlib.Core.Path.{_≡_, refl, sym, ap, subst, _∙_}
-use mathlib.Core.Bool.{true, false}
+use mathlib.Core.Path.{_≡_, sym, subst, _∙_}
+use mathlib.Core.Bool.{true}
 use mathlib.Core.List.{List, [], _∷_, _++_, reverse, map, append-assoc}
 use Prim.Native.Nat.{ℕ, _+_, _*_, _-_, _<_, _≤_}
 use native.Mathlib.Omega.{arith}
 use borrow.Author.Tests.{le-leb, lt-leb}
 use lib.ListN.{length, getD, set, take, drop, length-append, length-reverse}
 use lib.Seq.{take-all, length-take-le}
-use Rattle.laws.specs.Run.{Run, ok, fault, andThen, forEach, at, put}
+use Rattle.laws.specs.Run.{ok, fault, andThen, forEach, at, put}
 use Rattle.laws.proofs.Windows.{put-in, put-out}
 use Rattle.matching.specs.Graph.{Graph, beside, missing}
 use Rattle.numbers.specs.Edges.{endsOf}
@@ -18,7 +18,7 @@ use Rattle.candidates.proofs.RowLaws.{row-anew}
 use Rattle.steps.specs.State.{State}
 use Rattle.steps.specs.Stores.{withBases, withParents, withChildren, withRingEnds}
 use Rattle.steps.specs.Add.{Trace, trace, fitChildren, adopt, ringUp}
-use Rattle.adding.specs.Parts.{Meeting, Ring, meetingOf, joined, ringOf}
+use Rattle.adding.specs.Parts.{Meeting, meetingOf, joined, ringOf}
 use Rattle.adding.specs.View.{MetFits, RingFits}
 use Rattle.adding.specs.declared.ring.Met.{Met}
 use Rattle.adding.specs.declared.ring.Met.the-variants as met

@@ -1,7 +1,7 @@
 // The ring of a new group: found from the two paths, then stored with the group's base and the children's parent.
 ghost use mathlib.Core.Path.{_≡_};
 ghost use mathlib.Core.List.{List};
-ghost use Prim.Native.Nat.{ℕ, _*_, _<_, _≤_};
+ghost use Prim.Native.Nat.{_*_, _<_, _≤_};
 ghost use lib.ListN.{length};
 ghost use Rattle.laws.specs.Run.{ok, put};
 ghost use Rattle.matching.specs.Graph.{Edge as EdgeOf, Graph, graphOf};
@@ -28,7 +28,7 @@ use numbers::Node;
 use numbers::group_in;
 
 // The outermost groups of the base and of an edge's two nodes.
-pub enum Met {
+enum Met {
     At(Group, Group, Group),
     Out,
 }
@@ -54,13 +54,13 @@ fn meeting(ends: &[u16], tops: &[u16], base: Node, e: Edge) -> Met
 }
 
 // The base's child of a ring, and how many children it has.
-pub enum Ringed {
+pub(crate) enum Ringed {
     At(Group, u16),
     Out,
 }
 
 // The children and their ends go to the front of the rows; the paths are lent for the while. No ring has more children than nodes.
-pub fn ring(
+pub(crate) fn ring(
     ends: &[u16],
     labels: &[u16],
     label_ends: &[u16],
@@ -145,7 +145,7 @@ fn write_rows(
 }
 
 // The new group's ring of children and their ends, its parent and its base.
-pub fn ring_up(
+pub(crate) fn ring_up(
     bases: &mut [u16],
     parents: &mut [u16],
     kids: &mut [u16],

@@ -1,5 +1,5 @@
 -- Laws of the path, in the form of the code's calls and tests.
-use mathlib.Core.Path.{_≡_, refl, sym, ap, _∙_}
+use mathlib.Core.Path.{_≡_, refl, sym, _∙_}
 use mathlib.Core.Bool.{Bool, true, false}
 use mathlib.Core.List.{List, [], _∷_}
 use Prim.Native.Nat.{ℕ, zero, suc, _+_, _*_, _-_, _<_, _≤_}
@@ -13,13 +13,14 @@ use Rattle.laws.proofs.Runs.{then-assoc, then-same, while-stop, while-spent, wh
 use Rattle.matching.specs.Graph.{Edge, graphOf, isGroup, beside}
 use Rattle.matching.specs.Tests.{matesPass}
 use Rattle.numbers.specs.Edges.{endsOf}
+use Rattle.numbers.proofs.EdgeLaws.{first-next, second-next}
 use Rattle.labels.proofs.Endpoints.{endpoint-at}
 use Rattle.steps.specs.Augment.{Trail, Reached, trailGoes, trailMove, throughLabel1, throughLabel2, augmentTop, matchTrail, augmentMatching}
 use Rattle.steps.specs.Ends.{present}
 use Rattle.steps.specs.State.{State}
 use Rattle.steps.specs.Stores.{putMate}
-use Rattle.augment.specs.View.{Pools, Lists, below}
-use Rattle.augment.specs.Path.{Reads, along, Roads, Found, onTrail, fromEnd, intoEnd, wayTo}
+use Rattle.augment.specs.View.{below}
+use Rattle.augment.specs.Path.{Roads, Found, onTrail, fromEnd, intoEnd, wayTo}
 use Rattle.augment.proofs.TurnLaws.{pools-kept}
 
 -- ---- two numbers compared
@@ -116,18 +117,12 @@ roads-kept n ends counts kids links mates kids′ links′ mates′ r x y z =
 
 -- ---- both halves of the path over edge e
 
-twice-next : (e : ℕ) → 2 * suc e ≡ suc (suc (2 * e))
-twice-next e = omega arith
-
-odd-next : (e : ℕ) → 2 * suc e + 1 ≡ suc (suc (2 * e + 1))
-odd-next e = omega arith
-
 at-edge : {A : Type 0} (edges : List Edge) (e : ℕ) (k : ℕ → ℕ → Run A)
     → (at edges e >>= λ x. k (x .first) (x .second)) ≡ (at (endsOf edges) (2 * e) >>= λ a. at (endsOf edges) (2 * e + 1) >>= λ b. k a b)
 unfolding at endsOf
 at-edge [] e k = refl
 at-edge (x ∷ xs) zero k = refl
-at-edge (x ∷ xs) (suc e) k = rw (odd-next e, twice-next e) (at-edge xs e k)
+at-edge (x ∷ xs) (suc e) k = rw (second-next e, first-next e) (at-edge xs e k)
 
 abbrev bothHalves : (n : ℕ) → List Edge → (e : ℕ) → State → (a b : ℕ) → Run State
 bothHalves n edges e s a b =

@@ -6,7 +6,7 @@ use Prim.Native.Nat.{ℕ, _≤_}
 use lib.Dec.{eqb}
 use lib.ListN.{length}
 use Rattle.laws.specs.Run.{Run, ok, fault, _>>=_, must, at}
-use Rattle.matching.specs.Graph.{Edge, graphOf, isGroup, beside}
+use Rattle.matching.specs.Graph.{Edge, graphOf, beside}
 use Rattle.numbers.specs.Edges.{endsOf}
 use Rattle.numbers.specs.View.{Agrees}
 use Rattle.numbers.specs.declared.GotEnd.{GotEnd}

@@ -6,7 +6,7 @@ use Prim.Native.Nat.{ℕ, min, _*_, _-_, _≤_, _<_}
 use lib.ListN.{length, getD, set}
 use Rattle.laws.specs.Rows.{rowOf}
 use Rattle.laws.specs.Run.{Run, _>>=_, at, position, while}
-use Rattle.matching.specs.Graph.{Edge, Graph, graphOf, isGroup, isOdd}
+use Rattle.matching.specs.Graph.{Edge, graphOf, isGroup, isOdd}
 use Rattle.numbers.specs.Edges.{endsOf}
 use Rattle.numbers.specs.Pools.{pooled}
 use Rattle.numbers.specs.View.{Agrees}

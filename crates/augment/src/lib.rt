@@ -1,5 +1,5 @@
 // Re-rooting a group and augmenting the matching: matched and unmatched edges change places along a path.
-pub mod mates;
+mod mates;
 pub mod ring;
 pub mod trail;
-pub mod turn;
+mod turn;

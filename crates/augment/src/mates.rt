@@ -15,7 +15,7 @@ use numbers::get;
 use numbers::node_in;
 
 // The mate of node v is missing, or an end whose other end is v and whose node has that other end as mate.
-pub fn mate_fits(ends: &[u16], mates: &[u16], v: Node) -> bool
+fn mate_fits(ends: &[u16], mates: &[u16], v: Node) -> bool
     requires { ⌜ length (now ends) ≤ 65535 ⌝ }
     ensures { λ r. ⌜ ((n : ℕ) (edges : List EdgeOf) → endsOf edges ≡ now (ends .entry) → r ≡ mateTest (graphOf n edges) (now (mates .entry)) (v .0)) ⌝ }
 {
@@ -42,7 +42,7 @@ pub fn mate_fits(ends: &[u16], mates: &[u16], v: Node) -> bool
 }
 
 // The mate of each of n nodes fits.
-pub fn mates_pass(ends: &[u16], mates: &[u16], n: u16) -> bool
+pub(crate) fn mates_pass(ends: &[u16], mates: &[u16], n: u16) -> bool
     requires { ⌜ length (now ends) ≤ 65535 ⌝ }
     ensures { λ r. ⌜ ((edges : List EdgeOf) → endsOf edges ≡ now (ends .entry) → r ≡ matesPass (graphOf n edges) (now (mates .entry))) ⌝ }
 {

@@ -47,7 +47,7 @@ pub fn link_end(links: &[u16], n: u16, b: Group, m: u16, forward: bool, j: u16) 
 }
 
 // The child at place k.
-pub fn child_at(kids: &[u16], n: u16, b: Group, m: u16, k: u16) -> Group
+pub(crate) fn child_at(kids: &[u16], n: u16, b: Group, m: u16, k: u16) -> Group
     requires { ⌜ (length (now kids) ≡ n * n) × (k < m) × (m ≤ n) × (n ≤ b .0) × (b .0 < 2 * n) ⌝ }
     ensures { λ r. ⌜ ((counts : List ℕ) → Ring n counts (b .0) m → at (rowOf n counts (now (kids .entry)) (b .0 - n)) k ≡ ok (r .0)) ⌝ }
 {
@@ -88,7 +88,7 @@ fn flip(list: &mut [u16], from: usize, to: usize)
 }
 
 // The ring with place i first: both parts in reverse order, and then the whole.
-pub fn rotate(pool: &mut [u16], n: u16, b: Group, m: u16, i: u16)
+pub(crate) fn rotate(pool: &mut [u16], n: u16, b: Group, m: u16, i: u16)
     requires { ⌜ (length (now pool) ≡ n * n) × (i ≤ m) × (m ≤ n) × (n ≤ b .0) × (b .0 < 2 * n) ⌝ }
     ensures { λ r. ⌜ ((counts : List ℕ) → Ring n counts (b .0) m → Rotated n counts (b .0) i (now (pool .entry)) (now (pool .exit))) ⌝ }
 {

@@ -1,6 +1,6 @@
 // Augmenting: from each end of an edge between two trees, back to the root, matched and unmatched edges change places.
 ghost use mathlib.Core.Path.{_≡_};
-ghost use mathlib.Core.Bool.{Bool, false};
+ghost use mathlib.Core.Bool.{false};
 ghost use mathlib.Core.List.{List};
 ghost use Prim.Native.Nat.{ℕ, _≤_};
 ghost use lib.ListN.{length};
@@ -32,14 +32,14 @@ use numbers::node_in;
 use numbers::store;
 
 // One move along the path: the next node to match and the end to match it by, or the root is reached.
-pub enum Move {
+enum Move {
     On(Node, End),
     Over,
     Out,
 }
 
 // A label-2 group, the end through which it was reached, and that edge's two nodes: the far one, and the near one in the group.
-pub enum Way {
+enum Way {
     To(Group, End, Node, Node),
     Out,
 }

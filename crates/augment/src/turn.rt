@@ -1,11 +1,10 @@
 // Re-rooting a group. The group's routine turns the child that holds the new base, goes round the ring to its first child, two children
 // at a time, and rotates the ring; a child that is a group is turned by the group's routine again, and the depth falls.
 ghost use mathlib.Core.Path.{_≡_};
-ghost use mathlib.Core.Bool.{Bool};
 ghost use mathlib.Core.List.{List};
 ghost use Prim.Native.Nat.{ℕ, _*_, _-_, _<_, _≤_};
 ghost use lib.ListN.{length};
-ghost use Rattle.laws.specs.Run.{Run, onlyIf};
+ghost use Rattle.laws.specs.Run.{onlyIf};
 ghost use Rattle.matching.specs.Graph.{Edge, graphOf, isGroup, isOdd};
 ghost use Rattle.numbers.specs.Edges.{endsOf};
 ghost use Rattle.numbers.specs.View.{gotGroup, Agrees};
@@ -33,7 +32,7 @@ use numbers::pools::row_len;
 use numbers::store;
 
 // From node v up to the child of group b that holds it, by the parents: at most 2n moves.
-pub fn child_holding(parents: &[u16], n: u16, b: Group, v: Node) -> GotGroup
+fn child_holding(parents: &[u16], n: u16, b: Group, v: Node) -> GotGroup
     requires { ⌜ n ≤ 512 ⌝ }
     ensures { λ r. ⌜ gotGroup r ≡ childHolding (now (parents .entry)) (2 * n) (b .0) (v .0) ⌝ }
 {
@@ -59,7 +58,7 @@ pub fn child_holding(parents: &[u16], n: u16, b: Group, v: Node) -> GotGroup
 }
 
 // The edge with end p is matched.
-pub fn match_end(ends: &[u16], mates: &mut [u16], p: End) -> bool
+fn match_end(ends: &[u16], mates: &mut [u16], p: End) -> bool
     ensures { λ r. ⌜ ((n : ℕ) (edges : List Edge) → endsOf edges ≡ now (ends .entry) → (s : State) → Agrees (matchEnd (graphOf n edges) (p .0) (withMates (now (mates .entry)) s)) r (withMates (now (mates .exit)) s)) ⌝ }
 {
     let e = p.number();
@@ -78,7 +77,7 @@ pub fn match_end(ends: &[u16], mates: &mut [u16], p: End) -> bool
 }
 
 // The child at place i is the group's first, and its base, which is v, the group's.
-pub fn reroot(
+fn reroot(
     kids: &mut [u16],
     links: &mut [u16],
     bases: &mut [u16],
@@ -104,7 +103,7 @@ pub fn reroot(
 }
 
 // Group b is turned so that node v is its base; groups nest at most `depth` deep.
-pub fn turn_group(
+fn turn_group(
     ends: &[u16],
     parents: &[u16],
     counts: &[u16],
@@ -159,7 +158,7 @@ pub fn turn_group(
 }
 
 // A child that is a group is turned; a node is left as it is.
-pub fn turn_child(
+pub(crate) fn turn_child(
     ends: &[u16],
     parents: &[u16],
     counts: &[u16],

@@ -1,5 +1,5 @@
 -- A loop that considers what a list names, one entry a turn.
-use mathlib.Core.Path.{_≡_, refl, sym, ap, subst, _∙_}
+use mathlib.Core.Path.{_≡_, refl, sym, ap, subst}
 use mathlib.Core.List.{List, [], _∷_, map}
 use Prim.Native.Nat.{ℕ, _+_, _<_, _≤_}
 use native.Mathlib.Omega.{arith}
@@ -15,8 +15,8 @@ use Rattle.numbers.specs.declared.Got.the-variants as number
 use Rattle.steps.specs.State.{State}
 use Rattle.steps.specs.Stores.{putBest, putBestList}
 use Rattle.steps.specs.Add.{Link, Gathered, consider, considerChild, gather}
-use Rattle.candidates.specs.Gathering.{gathered, Gathers, gathering, Collects}
-use Rattle.candidates.specs.Links.{outer, linksOf, Seated, Keeps, Considers, weighed, after, KeptFits}
+use Rattle.candidates.specs.Gathering.{gathered, gathering, Collects}
+use Rattle.candidates.specs.Links.{outer, linksOf, Seated, Considers, weighed, after, KeptFits}
 
 -- what holds of an answer's count, where the count is known
 pub after-at : (P : ℕ → Type 0) (r : Got) {k : ℕ} → after r P → r ≡ number.At k → P k

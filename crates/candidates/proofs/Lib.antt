@@ -1,3 +1,4 @@
+-- The laws of a new group's candidate edges.
 pub mod Positions
 pub mod LinkLaws
 pub mod GatherLaws

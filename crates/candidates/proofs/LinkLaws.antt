@@ -7,24 +7,23 @@ use Prim.Native.Nat.{ℕ, zero, suc, _+_, _*_, _-_, _<_, _≤_}
 use native.Mathlib.Nat.{sub-zero}
 use native.Mathlib.Numerals.{add-one}
 use native.Mathlib.Omega.{arith}
-use borrow.Author.Tests.{eq-eqb, ne-eqb, le-leb, lt-leb, eqb-true}
+use borrow.Author.Tests.{eq-eqb, ne-eqb, le-leb, lt-leb}
 use lib.Dec.{eqb, leb}
 use lib.IntN.{ℤ}
 use lib.ListN.{length, getD, set, take, length-take, length-map, length-append, length-set, List·getD-map}
 use lib.Seq.{getD-set-same, getD-set-other, getD-take, take-suc-set, map-set-same}
 use Rattle.laws.specs.Run.{Run, ok, fault, andThen, _>>=_, if_then_else_, onlyIf, must, at, position, positionFrom}
 use Rattle.laws.proofs.Runs.{not-ok, ok-inj}
-use Rattle.laws.proofs.Times.{same-or-not}
-use Rattle.laws.proofs.Windows.{at-in, at-out, take-set}
-use Rattle.matching.specs.Graph.{Edge, Graph, missing, edgeAt}
+use Rattle.laws.proofs.Times.{same-or-not, less-or-not}
+use Rattle.laws.proofs.Windows.{take-set, at-value}
+use Rattle.matching.specs.Graph.{Edge, Graph, missing}
 use Rattle.numbers.specs.Edges.{endsOf}
-use Rattle.edges.proofs.Counts.{less-or-not}
 use Rattle.edges.proofs.Lent.{edge-lent, no-edge-lent, first-lent, second-lent}
 use Rattle.steps.specs.Ends.{present, tighter}
 use Rattle.steps.specs.State.{State}
 use Rattle.steps.specs.Add.{Link, insertLink, considerTo, consider}
 use Rattle.candidates.specs.Links.{towardOf, outer, link, linksOf, Seated, insertFit}
-use Rattle.candidates.proofs.Positions.{at-found, at-value, position-here, position-later, position-bound, position-at, position-other, position-new}
+use Rattle.candidates.proofs.Positions.{position-here, position-later, position-bound, position-at, position-other, position-new}
 
 -- ---- where an edge leads
 
@@ -33,9 +32,6 @@ pub consider-toward : (G : Graph) (s : State) (new e : ℕ) (links : List Link)
 unfolding consider towardOf
 consider-toward G s new e links = by-edge (at (G .edges) e)
   where
-    last : ℕ → Run (List Link)
-    last j = onlyIf (not (eqb j new)) (considerTo G s j e) links
-
     by-top : (x : Edge) (r : Run ℕ) → (r >>= λ t. at (s .forest .tops) (if eqb t new then x .first else x .second) >>= λ j. onlyIf (not (eqb j new)) (considerTo G s j e) links)
         ≡ andThen (r >>= λ t. at (s .forest .tops) (if eqb t new then x .first else x .second)) (λ j. onlyIf (not (eqb j new)) (considerTo G s j e) links)
     by-top x (ok t) = refl
@@ -74,12 +70,6 @@ module _ (G : Graph) {ends : List ℕ} (he : endsOf (G .edges) ≡ ends) (tops :
   unfolding outer
   toward-outer {j} k q r = ⊎-elim (λ h. inner h (at tops (getD ends (2 * e + 1) 0)) refl) (λ h. not-ok (sym (toward-out h k q) ∙ r)) (less-or-not (2 * e + 1) (length ends))
     where
-      a : ℕ
-      a = getD ends (2 * e) 0
-
-      b : ℕ
-      b = getD ends (2 * e + 1) 0
-
       inner : 2 * e + 1 < length ends → (w : Run ℕ) → at tops (getD ends (2 * e + 1) 0) ≡ w → j ≡ (if eqb (getD tops (getD ends (2 * e + 1) 0) 0) new then getD tops (getD ends (2 * e) 0) 0 else getD tops (getD ends (2 * e + 1) 0) 0)
       inner h fault m = not-ok (sym (toward-none h m) ∙ r)
       inner h (ok t) m =
@@ -251,9 +241,6 @@ module _ (G : Graph) (s : State) (j e l : ℕ) (links : List Link) (q : at (s .l
 
 module _ (G : Graph) (duals : List ℤ) (f : ℕ → ℕ) (j e : ℕ) (same : f e ≡ j) (kept seat : List ℕ) (len : ℕ) (room : length kept ≡ G .nodes) (within : len ≤ G .nodes) (small : G .nodes ≤ 512)
     (s : Seated (G .nodes) seat (map f (take len kept))) (hj : j < 2 * G .nodes) where
-  abbrev window : List ℕ
-  window = take len kept
-
   window-length : length (take len kept) ≡ len
   window-length = length-take len kept ∙ omega arith
 

@@ -1,26 +1,15 @@
--- The first place of a number in a list, and reads that are known to succeed.
+-- The first place of a number in a list.
 use mathlib.Core.Path.{_≡_, refl, sym, ap, _∙_}
-use mathlib.Core.Bool.{Bool, true, false}
 use mathlib.Core.Logic.{_≢_, ⊎-elim}
 use mathlib.Core.List.{List, [], _∷_, _++_}
-use Prim.Native.Nat.{ℕ, zero, suc, _+_, _-_, _<_, _≤_}
+use Prim.Native.Nat.{ℕ, suc, _+_, _-_, _<_, _≤_}
 use native.Mathlib.Nat.{add-zero}
 use native.Mathlib.Omega.{arith}
 use borrow.Author.Tests.{eq-eqb, ne-eqb}
-use lib.Dec.{eqb}
 use lib.ListN.{length, getD}
-use Rattle.laws.specs.Run.{Run, ok, fault, at, positionFrom}
+use Rattle.laws.specs.Run.{ok, fault, positionFrom}
 use Rattle.laws.proofs.Runs.{not-ok, ok-inj}
 use Rattle.laws.proofs.Times.{same-or-not}
-use Rattle.laws.proofs.Windows.{at-in, at-out}
-use Rattle.edges.proofs.Counts.{less-or-not}
-
--- a read that succeeds was in range, and what it gave is the entry there
-pub at-found : {A : Type 0} (l : List A) (i : ℕ) {x : A} → at l i ≡ ok x → i < length l
-at-found l i e = ⊎-elim (λ h. h) (λ h. not-ok (sym (at-out l i h) ∙ e)) (less-or-not i (length l))
-
-pub at-value : {A : Type 0} (l : List A) (i : ℕ) (d : A) {x : A} → at l i ≡ ok x → x ≡ getD l i d
-at-value l i d e = ok-inj (sym e ∙ at-in l i d (at-found l i e))
 
 -- ---- the first place
 

@@ -13,11 +13,11 @@ use Rattle.laws.specs.Lists.{Each}
 use Rattle.laws.specs.Rows.{rowOf, places}
 use Rattle.laws.specs.Run.{Run, ok, fault, _>>=_, if_then_else_, forEach, at, put, push}
 use Rattle.laws.proofs.Rows.{length-rows, put-rows, places-other}
-use Rattle.laws.proofs.Sure.{Kept, kept, torn, kept-bind, kept-forEach}
+use Rattle.laws.proofs.Kept.{Kept, kept, torn, kept-bind, kept-forEach}
 use Rattle.laws.proofs.Windows.{put-in, put-out}
+use Rattle.laws.proofs.Times.{less-or-not}
 use Rattle.numbers.specs.Pools.{rowIn, pooled}
-use Rattle.numbers.proofs.PoolLaws.{place-row, at-node, at-group, at-none, pooled-count}
-use Rattle.edges.proofs.Counts.{less-or-not}
+use Rattle.numbers.proofs.PoolLaws.{place-row, at-group, at-none, pooled-count}
 use Rattle.steps.specs.Leaves.{leaves}
 
 -- a part of a part

@@ -1,7 +1,7 @@
 -- The links kept so far as the code holds them: only the edges, since the group that an edge leads to is read from the outermost
 -- groups; and for each group its place among them, or missing.
 use mathlib.Core.Path.{_≡_}
-use mathlib.Core.List.{List, [], _∷_, map}
+use mathlib.Core.List.{List, map}
 use Prim.Native.Nat.{ℕ, _+_, _*_, _<_, _≤_}
 use lib.Dec.{eqb, leb}
 use lib.IntN.{ℤ}

@@ -1,7 +1,7 @@
 // The candidates of a new group: its children's edges gathered, the children's own candidates forgotten, and the tightest found.
 ghost use mathlib.Core.Path.{_≡_};
 ghost use mathlib.Core.List.{List};
-ghost use Prim.Native.Nat.{ℕ, _+_, _*_, _<_, _≤_};
+ghost use Prim.Native.Nat.{_+_, _*_, _<_, _≤_};
 ghost use lib.ListN.{length};
 ghost use Rattle.laws.specs.Run.{forEach};
 ghost use Rattle.matching.specs.Graph.{Edge as EdgeOf, Graph, graphOf, missing};
@@ -16,7 +16,6 @@ ghost use Rattle.candidates.specs.Gathering.{gathering, Collects, Gather
 use crate::gathering::consider_child;
 use crate::gathering::forget;
 use crate::rows::copy;
-use crate::rows::fill;
 use crate::rows::first;
 use edges::Tested;
 use edges::tighter;
@@ -25,6 +24,7 @@ use numbers::Got;
 use numbers::GotEdge;
 use numbers::Group;
 use numbers::MISSING;
+use numbers::fill;
 use numbers::store;
 
 // Child c's edges are considered; it keeps no candidates and no best edge.

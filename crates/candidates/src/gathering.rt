@@ -1,20 +1,18 @@
 // All edges of the new group, child after child: a child's own candidates, or all edges of its nodes where it has none.
 ghost use mathlib.Core.Path.{_≡_};
-ghost use mathlib.Core.List.{List, [], map};
+ghost use mathlib.Core.List.{List, []};
 ghost use Prim.Native.Nat.{ℕ, _+_, _*_, _/_, _<_, _≤_};
 ghost use lib.ListN.{length};
 ghost use Rattle.laws.specs.Lists.{Each};
 ghost use Rattle.laws.specs.Run.{andThen, forEach, at};
-ghost use Rattle.matching.specs.Graph.{Edge as EdgeOf, graphOf};
-ghost use Rattle.numbers.specs.Edges.{endsOf, weightsOf};
 ghost use Rattle.numbers.specs.Pools.{pooled, PoolFits};
 ghost use Rattle.numbers.specs.View.{Agrees};
 ghost use Rattle.edges.specs.Neighbours.{Neighbours};
 ghost use Rattle.steps.specs.State.{State};
 ghost use Rattle.steps.specs.Stores.{withChildren, putBest, putBestList};
-ghost use Rattle.steps.specs.Add.{consider as considerOf, considerAt, considerChild, gather as gatherOf};
+ghost use Rattle.steps.specs.Add.{consider as considerOf, considerAt, considerChild};
 ghost use Rattle.matching.specs.Graph.{missing};
-ghost use Rattle.candidates.specs.Links.{outer, linksOf, Seated, Considers, weighed, after, WeighFits, KeptFits};
+ghost use Rattle.candidates.specs.Links.{Considers, after, WeighFits, KeptFits};
 ghost use Rattle.candidates.specs.Gathering.{ownOf, OwnFits, listed};
 use crate::links::consider;
 use crate::rows::first;
@@ -232,7 +230,7 @@ fn consider_leaves(
 }
 
 // A group's own candidates: where they begin in the lists and how many there are.
-pub enum Own {
+enum Own {
     Some(usize, usize),
     None,
     Out,
@@ -258,7 +256,7 @@ fn own_edges(sizes: &[u16], n: u16, c: Group) -> Own
 }
 
 // Child c's own candidates, or all edges of its nodes where it has none.
-pub fn consider_child(
+pub(crate) fn consider_child(
     ends: &[u16],
     weights: &[i64],
     offsets: &[u16],
@@ -319,7 +317,7 @@ pub fn consider_child(
 }
 
 // Child c keeps no candidates and no best edge.
-pub fn forget(sizes: &mut [u16], best: &mut [u16], n: u16, c: Group) -> bool
+pub(crate) fn forget(sizes: &mut [u16], best: &mut [u16], n: u16, c: Group) -> bool
     requires { ⌜ (n ≤ 512) × (length (now sizes) ≡ n) ⌝ }
     ensures { λ r. ⌜ ((lists : List ℕ) (s : State) → Agrees (andThen (putBestList (c .0) [] (listed n (now (best .entry)) (now (sizes .entry)) lists s)) (putBest (c .0) missing)) r (listed n (now (best .exit)) (now (sizes .exit)) lists s)) ⌝ }
 {

@@ -21,7 +21,7 @@ use numbers::get;
 use numbers::group_in;
 
 // The outermost group that edge e leads to from the new group, if it leaves it.
-pub fn toward(ends: &[u16], tops: &[u16], new: Group, e: Edge) -> GotGroup
+fn toward(ends: &[u16], tops: &[u16], new: Group, e: Edge) -> GotGroup
     ensures { λ r. ⌜ ((G : Graph) → endsOf (G .edges) ≡ now (ends .entry) → gotGroup r ≡ towardOf G (now (tops .entry)) (new .0) (e .0)) ⌝ }
 {
     let k = 2 * (e.number() as usize);
@@ -86,7 +86,7 @@ fn insert(
 }
 
 // Edge e, if it leaves the new group for a label-1 group; the answer is how many edges are kept then.
-pub fn consider(
+pub(crate) fn consider(
     ends: &[u16],
     weights: &[i64],
     labels: &[u16],

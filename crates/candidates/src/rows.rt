@@ -1,7 +1,7 @@
-// Parts of lists: the first so many, a list filled, a list copied.
+// Parts of lists: the first so many, and a list copied.
 ghost use mathlib.Core.Path.{_≡_};
-ghost use Prim.Native.Nat.{ℕ, _≤_};
-ghost use lib.ListN.{length, take, replicate};
+ghost use Prim.Native.Nat.{_≤_};
+ghost use lib.ListN.{length, take};
 
 // The first count of a list, or all where there are no more.
 pub fn first(list: &[u16], count: u16) -> &[u16]
@@ -9,14 +9,6 @@ pub fn first(list: &[u16], count: u16) -> &[u16]
 {
     let k = count as usize;
     if k < list.len() { &list[..k] } else { list }
-}
-
-pub fn fill(list: &mut [u16], x: u16)
-    ensures { λ r. ⌜ now (list .exit) ≡ replicate (length (now (list .entry))) x ⌝ }
-{
-    for k in 0..list.len() {
-        list[k] = x;
-    }
 }
 
 // The first len of a list go to the front of a row.

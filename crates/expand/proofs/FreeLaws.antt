@@ -5,28 +5,30 @@ use mathlib.Core.List.{List, []}
 use Prim.Native.Nat.{ℕ, zero, suc, min, _+_, _*_, _-_, _^_, _<_, _≤_}
 use native.Mathlib.Numerals.{sub-one}
 use native.Mathlib.Omega.{arith}
+use borrow.Author.Tests.{lt-ltb, le-ltb}
 use lib.Dec.{eqb, ltb}
 use lib.IntN.{ℤ}
 use lib.Signed.{mag}
 use mir.Syntax.{w64}
 use mir.Val.{ofZ, toZ, hbits}
 use mir.ValLaws.{toZ-ofZ}
-use lib.ListN.{length, getD, set, take, drop, length-take}
+use lib.ListN.{length, getD, take, drop, length-take}
 use lib.Seq.{getD-take}
 use Rattle.laws.specs.Integers.{isZero}
 use Rattle.laws.specs.Run.{Run, ok, fault, andThen, onlyIf, forEach, at, put}
 use Rattle.laws.proofs.Runs.{then-assoc, then-same, forEach-next, forEach-end}
 use Rattle.laws.proofs.Decides.{nought, passed, failed}
 use Rattle.laws.proofs.Rows.{length-rows}
-use Rattle.laws.proofs.Sure.{Kept, torn, kept-bind, kept-map, kept-if, kept-at, kept-push, kept-put, kept-ok, kept-forEach}
+use Rattle.laws.proofs.Kept.{Kept, torn, kept-bind, kept-map, kept-if, kept-at, kept-push, kept-put, kept-ok, kept-forEach}
 use Rattle.laws.proofs.Windows.{put-in, put-out, put-fault, at-unused}
-use Rattle.matching.specs.Graph.{Graph, missing}
+use Rattle.matching.specs.Graph.{Edge, Graph, graphOf, missing}
 use Rattle.numbers.specs.Pools.{pooled, rowIn}
 use Rattle.numbers.proofs.PoolLaws.{pooled-count}
 use Rattle.steps.specs.State.{State}
 use Rattle.steps.specs.Stores.{withTops}
 use Rattle.steps.specs.Leaves.{leaves}
-use Rattle.steps.specs.Expand.{bringTop, freeChild, relabelRing, retire, expandGroup}
+use Rattle.steps.specs.Expand.{bringTop, keepChild, freeGroup, freeChild, relabelRing, retire, expandGroup}
+use Rattle.expand.specs.View.{topped}
 use Rattle.expand.specs.Parts.{relabelIf}
 
 -- ---- the nodes of a list get an outermost group
@@ -109,6 +111,34 @@ module _ (G : Graph) where
 
   pub expand-over : (depth b : ℕ) (s : State) (kids : List ℕ) (r : Run State) → (depth ≡ 0 → ⊥) → at (s .forest .children) b ≡ ok kids → r ≡ forEach (freeing (depth - 1)) kids s → andThen r (retire G b) ≡ expandGroup G depth true b s
   expand-over depth b s kids r e h w = sym (expand-down depth b s e ∙ rw (h, ← w))
+
+-- ---- a child that becomes outermost at the end of a stage
+
+module _ (n : ℕ) (edges : List Edge) (depth c : ℕ) (tops parents : List ℕ) (s : State) where
+  pub child-lost : put parents c missing ≡ fault → freeing (graphOf n edges) depth c (topped tops parents s) ≡ fault
+  unfolding freeChild
+  child-lost e = rw e
+
+  module _ (parents′ : List ℕ) (e : put parents c missing ≡ ok parents′) where
+    pub node-lost : c < n → put tops c c ≡ fault → freeing (graphOf n edges) depth c (topped tops parents s) ≡ fault
+    unfolding freeChild
+    node-lost h p = rw (e, lt-ltb c n h, p)
+
+    pub node-own : (tops′ : List ℕ) → c < n → put tops c c ≡ ok tops′ → freeing (graphOf n edges) depth c (topped tops parents s) ≡ ok (topped tops′ parents′ s)
+    unfolding freeChild
+    node-own tops′ h p = rw (e, lt-ltb c n h, p)
+
+    pub group-lost : n ≤ c → at (s .pairing .duals) c ≡ fault → freeing (graphOf n edges) depth c (topped tops parents s) ≡ fault
+    unfolding freeChild freeGroup
+    group-lost h d = rw (e, le-ltb c n h, d)
+
+    pub group-opened : n ≤ c → (z : ℤ) → at (s .pairing .duals) c ≡ ok z → isZero z ≡ true → freeing (graphOf n edges) depth c (topped tops parents s) ≡ expandGroup (graphOf n edges) depth true c (topped tops parents′ s)
+    unfolding freeChild freeGroup
+    group-opened h z d q = rw (e, le-ltb c n h, d, q)
+
+    pub group-stays : n ≤ c → (z : ℤ) → at (s .pairing .duals) c ≡ ok z → isZero z ≡ false → freeing (graphOf n edges) depth c (topped tops parents s) ≡ keepChild (graphOf n edges) c (topped tops parents′ s)
+    unfolding freeChild freeGroup
+    group-stays h z d q = rw (e, le-ltb c n h, d, q)
 
 -- ---- a dual that is 0, by its bits
 

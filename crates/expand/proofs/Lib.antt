@@ -1,3 +1,4 @@
+-- The laws of a group taken apart.
 pub mod FreeLaws
 pub mod RelabelLaws
 pub mod WithinLaws

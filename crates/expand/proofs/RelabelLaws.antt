@@ -1,5 +1,5 @@
 -- Laws of the relabelling of a ring, in the form of the code's tests.
-use mathlib.Core.Path.{_≡_, refl, sym, ap, _∙_}
+use mathlib.Core.Path.{_≡_, sym, ap, _∙_}
 use mathlib.Core.Bool.{Bool, true, false, not}
 use mathlib.Core.List.{List}
 use Prim.Native.Nat.{ℕ, _+_, _-_, _<_, _≤_}
@@ -11,7 +11,7 @@ use lib.ListN.{length, getD, take, drop, drop-of-length-le, length-take}
 use lib.Seq.{drop-cons, getD-take}
 use Rattle.laws.specs.Run.{Run, ok, fault, andThen, if_then_else_, onlyIf, while, at, position}
 use Rattle.laws.proofs.Runs.{then-assoc, while-stop, while-spent, while-broken, while-pass}
-use Rattle.laws.proofs.Sure.{kept-ok, kept-position}
+use Rattle.laws.proofs.Kept.{kept-ok, kept-position}
 use Rattle.matching.specs.Graph.{Graph, missing}
 use Rattle.steps.specs.Ends.{present}
 use Rattle.steps.specs.State.{State}

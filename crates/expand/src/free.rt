@@ -73,7 +73,7 @@ fn free_kept(
 }
 
 // The children of group b, within a stage.
-pub fn free_all(
+pub(crate) fn free_all(
     parents: &mut [u16],
     tops: &mut [u16],
     kids: &[u16],
@@ -96,7 +96,7 @@ pub fn free_all(
 }
 
 // Group b is no more; its number goes on the end of the free numbers. The answer is how many are free then.
-pub fn retire(
+pub(crate) fn retire(
     labels: &mut [u16],
     label_ends: &mut [u16],
     best: &mut [u16],

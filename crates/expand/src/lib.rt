@@ -2,16 +2,16 @@
 use numbers::End;
 
 pub mod free;
-pub mod relabel;
-pub mod ring;
-pub mod walk;
+mod relabel;
+mod ring;
+mod walk;
 pub mod within;
 
 // One place more than a group can have nodes, so that a count of nodes is within it.
-pub const ROOM: usize = 1025;
+pub(crate) const ROOM: usize = 1025;
 
 // How the walk to the base child ended: how many are queued then, and the end through which the base child is reached.
-pub enum Walked {
+pub(crate) enum Walked {
     At(u16, End),
     Bad,
 }

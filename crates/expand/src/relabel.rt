@@ -1,9 +1,8 @@
 // A label-2 group is expanded within a stage: its children get labels anew.
 ghost use mathlib.Core.Path.{_≡_};
-ghost use mathlib.Core.Bool.{true, not};
+ghost use mathlib.Core.Bool.{true};
 ghost use mathlib.Core.List.{List};
 ghost use Prim.Native.Nat.{ℕ, _*_, _/_, _≤_};
-ghost use lib.Dec.{eqb};
 ghost use lib.ListN.{length, take};
 ghost use Rattle.laws.specs.Run.{put};
 ghost use Rattle.matching.specs.Graph.{Edge as EdgeOf, graphOf};
@@ -22,19 +21,17 @@ use labels::marks::label_two;
 use numbers::End;
 use numbers::Got;
 use numbers::GotEnd;
-use numbers::GotGroup;
 use numbers::GotNode;
 use numbers::Group;
 use numbers::MISSING;
 use numbers::Node;
 use numbers::end_in;
 use numbers::get;
-use numbers::group_in;
 use numbers::node_in;
 use numbers::store;
 
 // Label 0 again for the node beside end p.
-pub fn unlabel(ends: &[u16], labels: &mut [u16], p: End) -> bool
+pub(crate) fn unlabel(ends: &[u16], labels: &mut [u16], p: End) -> bool
     ensures { λ r. ⌜ ((n : ℕ) (edges : List EdgeOf) → endsOf edges ≡ now (ends .entry) → (s : State) → Agrees (unlabelOf (graphOf n edges) (p .0) (withLabels (now (labels .entry)) s)) r (withLabels (now (labels .exit)) s)) ⌝ }
 {
     let q = p.beside();
@@ -45,7 +42,7 @@ pub fn unlabel(ends: &[u16], labels: &mut [u16], p: End) -> bool
 }
 
 // The edge of end p is allowed.
-pub fn allow(allowed: &mut [bool], p: End) -> bool
+pub(crate) fn allow(allowed: &mut [bool], p: End) -> bool
     ensures { λ r. ⌜ Agrees (put (now (allowed .entry)) (p .0 / 2) true) r (now (allowed .exit)) ⌝ }
 {
     let e = p.edge();
@@ -59,7 +56,7 @@ pub fn allow(allowed: &mut [bool], p: End) -> bool
 }
 
 // The base child gets label 2 through end p, and passes none to its mate.
-pub fn relabel_base(
+pub(crate) fn relabel_base(
     ends: &[u16],
     labels: &mut [u16],
     label_ends: &mut [u16],
@@ -267,7 +264,7 @@ fn relabel_reached(
 }
 
 // A child that has label 1 by now is left as it is.
-pub fn onward_child(
+pub(crate) fn onward_child(
     ends: &[u16],
     labels: &mut [u16],
     label_ends: &mut [u16],

@@ -1,7 +1,7 @@
 // A label-2 group is expanded within a stage: the whole of its ring.
 ghost use mathlib.Core.Path.{_≡_};
 ghost use mathlib.Core.List.{List};
-ghost use Prim.Native.Nat.{ℕ, _*_, _-_, _≤_, _<_};
+ghost use Prim.Native.Nat.{_*_, _-_, _≤_, _<_};
 ghost use lib.ListN.{take};
 ghost use Rattle.laws.specs.Rows.{rowOf};
 ghost use Rattle.matching.specs.Graph.{Edge as EdgeOf, graphOf};
@@ -103,7 +103,7 @@ fn relabel_round(
 }
 
 // The children of group b get their labels; the answer is how many are queued then.
-pub fn relabel_ring(
+pub(crate) fn relabel_ring(
     ends: &[u16],
     labels: &mut [u16],
     label_ends: &mut [u16],

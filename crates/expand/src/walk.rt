@@ -1,7 +1,7 @@
 // A label-2 group is expanded within a stage: the walk round the ring of its children.
 ghost use mathlib.Core.Path.{_≡_};
 ghost use mathlib.Core.List.{List};
-ghost use Prim.Native.Nat.{ℕ, _*_, _-_, _≤_, _<_};
+ghost use Prim.Native.Nat.{_*_, _-_, _<_};
 ghost use lib.ListN.{length, take};
 ghost use Rattle.laws.specs.Rows.{rowOf};
 ghost use Rattle.laws.specs.Run.{ok, andThen, while};
@@ -10,7 +10,7 @@ ghost use Rattle.numbers.specs.View.{counted};
 ghost use Rattle.numbers.specs.Edges.{endsOf};
 ghost use Rattle.steps.specs.State.{State};
 ghost use Rattle.steps.specs.Ring.{around as aroundOf};
-ghost use Rattle.steps.specs.Expand.{Relabel, relabelGoes, relabelMove, Onward, onwardGoes, onwardMove};
+ghost use Rattle.steps.specs.Expand.{relabelGoes, relabelMove, onwardGoes, onwardMove};
 ghost use Rattle.augment.specs.View.{Ring};
 ghost use Rattle.expand.specs.View.{relabelled, walking, walked, PassFits, RingFits};
 ghost use Rattle.expand.specs.Parts.{relabelOn};
@@ -151,7 +151,7 @@ fn relabel_move(
 }
 
 // From place i to the base child, two places at a time: at most 2n times. The label of the group came through end e.
-pub fn relabel_walk(
+pub(crate) fn relabel_walk(
     ends: &[u16],
     labels: &mut [u16],
     label_ends: &mut [u16],
@@ -216,7 +216,7 @@ pub fn relabel_walk(
 }
 
 // The walk on from the base child, back to the child that was entered: at most 2n moves.
-pub fn onward(
+pub(crate) fn onward(
     ends: &[u16],
     labels: &mut [u16],
     label_ends: &mut [u16],

@@ -1,10 +1,10 @@
 use borrow.Author.Needs.{needs}
-use mathlib.Core.Path.{_≡_, refl, sym, ap, _∙_}
+use mathlib.Core.Path.{sym, ap, _∙_}
 use mathlib.Core.List.{List, [], _∷_, _++_, reverse, map}
 use Prim.Native.Nat.{ℕ, _+_, _*_, _<_, _≤_}
 use native.Mathlib.Omega.{arith}
 use denote.Ref.{now}
-use lib.ListN.{length, take, length-take, length-append, length-reverse}
+use lib.ListN.{length, take, length-take}
 use Rattle.laws.proofs.Runs.{told}
 use Rattle.matching.specs.Graph.{graphOf, beside}
 use Rattle.numbers.specs.View.{counted}

@@ -1,4 +1,4 @@
-use mathlib.Core.Path.{_≡_, refl, sym, _∙_}
+use mathlib.Core.Path.{_≡_, sym, _∙_}
 use mathlib.Core.List.{List}
 use Prim.Native.Nat.{_-_, _≤_}
 use native.Mathlib.Omega.{arith}
@@ -8,7 +8,7 @@ use Rattle.laws.specs.Lists.{all, range}
 use Rattle.matching.specs.Graph.{Edge, graphOf}
 use Rattle.matching.specs.Tests.{mateTest, matesPass}
 use Rattle.numbers.specs.Edges.{endsOf}
-use Rattle.augment.proofs.MateLaws.{all-next, all-none, all-end}
+use Rattle.laws.proofs.Loops.{all-next, all-stop, all-end}
 use borrow.Author.Needs.{needs}
 use Rattle.augment.proofs.mates.mates_pass.Statement.{statement}
 use Rattle.augment.proofs.mates.mates_pass.Tie as tie
@@ -38,7 +38,7 @@ returns c =
     let loop = c .before .before .before .loop in
     let mate-fits = c .before .mate-fits in
     let if1 = c .if1 in
-    λ edges h. all-none (mateTest (graphOf (args .n) edges) (now (args .mates))) (loop .v) (args .n) (search needs) (sym (mate-fits .ensures (args .n) edges h) ∙ not-true _ (if1 .taken)) (loop .inv .1 edges h)
+    λ edges h. all-stop (mateTest (graphOf (args .n) edges) (now (args .mates))) (loop .v) (args .n) (search needs) (sym (mate-fits .ensures (args .n) edges h) ∙ not-true _ (if1 .taken)) (loop .inv .1 edges h)
 
 -- src/mates.rt:49:5
 loop-again : tie.Need-loop-again Inv-loop μ-loop

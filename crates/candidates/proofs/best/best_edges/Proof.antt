@@ -25,7 +25,6 @@ use Rattle.candidates.proofs.best.best_edges.Lts as lts
 use Rattle.candidates.proofs.best.gather_all.Reads as gather-all-reads
 use Rattle.candidates.proofs.best.tightest.Reads as tightest-reads
 use Rattle.candidates.proofs.rows.copy.Reads as copy-reads
-use Rattle.candidates.proofs.rows.fill.Reads as fill-reads
 use Rattle.candidates.proofs.rows.first.Reads as first-reads
 use Rattle.numbers.proofs.Edge.number.Reads as Edge-number-reads
 use Rattle.numbers.proofs.Group.number.Reads as Group-number-reads

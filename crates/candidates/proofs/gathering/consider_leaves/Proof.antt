@@ -1,11 +1,11 @@
 use borrow.Author.Needs.{needs}
-use mathlib.Core.Path.{_≡_, sym, ap, _∙_}
+use mathlib.Core.Path.{_∙_}
 use mathlib.Core.List.{[]}
 use Prim.Native.Nat.{_*_}
 use denote.Ref.{now}
 use lib.ListN.{take}
 use Rattle.laws.proofs.Runs.{told}
-use Rattle.laws.proofs.Sure.{kept-ok}
+use Rattle.laws.proofs.Kept.{kept-ok}
 use Rattle.numbers.specs.Pools.{pooled}
 use Rattle.numbers.specs.View.{counted}
 use Rattle.steps.specs.Leaves.{leaves, leavesOf, leavesAfter}

@@ -1,11 +1,8 @@
 use borrow.Author.Needs.{needs}
-use mathlib.Core.Path.{_≡_, sym, ap, _∙_}
-use native.Mathlib.Omega.{arith}
 use denote.Ref.{now}
 use Prim.Native.Nat.{_-_}
 use lib.ListN.{set}
 use Rattle.numbers.proofs.Entries.{agrees-fault, agrees-last}
-use Rattle.steps.specs.Stores.{withBestLists}
 use Rattle.candidates.specs.Gathering.{listed}
 use Rattle.candidates.proofs.RowLaws.{empty-node, empty-group, empty-none}
 use Rattle.candidates.proofs.gathering.forget.Statement.{statement}

@@ -1,10 +1,9 @@
 use borrow.Author.Needs.{needs}
-use mathlib.Core.Path.{_≡_, sym, ap, _∙_}
-use Prim.Native.Nat.{ℕ, _*_, _-_, _<_, _≤_}
+use mathlib.Core.Path.{sym, _∙_}
+use Prim.Native.Nat.{_-_}
 use native.Mathlib.Nat.{mul-le-mul-right}
 use native.Mathlib.Omega.{arith}
 use denote.Ref.{now}
-use lib.ListN.{length}
 use Rattle.numbers.proofs.PoolLaws.{at-node, place-row}
 use Rattle.candidates.proofs.RowLaws.{own-none, own-some, own-fits, own-nothing}
 use Rattle.candidates.proofs.gathering.own_edges.Statement.{statement}

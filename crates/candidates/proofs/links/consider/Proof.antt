@@ -1,8 +1,7 @@
 use borrow.Author.Needs.{needs}
 use borrow.Author.Tests.{eq-eqb, ne-eqb}
-use mathlib.Core.Path.{_≡_, sym, ap, _∙_}
-use mathlib.Core.List.{map}
-use Prim.Native.Nat.{_*_, _≤_}
+use mathlib.Core.Path.{_≡_, sym, _∙_}
+use Prim.Native.Nat.{_≤_}
 use native.Mathlib.Omega.{arith}
 use denote.Ref.{now}
 use lib.ListN.{length, take, length-take, length-map}
@@ -12,7 +11,7 @@ use Rattle.numbers.specs.View.{gotOf, gotGroup}
 use Rattle.edges.proofs.Lent.{ends-lent}
 use Rattle.steps.specs.Add.{considerTo}
 use Rattle.candidates.specs.Links.{outer, link, linksOf, weighed}
-use Rattle.candidates.proofs.Positions.{at-found}
+use Rattle.laws.proofs.Windows.{at-found}
 use Rattle.candidates.proofs.LinkLaws.{consider-toward, toward-outer, consider-one, consider-skip}
 use Rattle.candidates.proofs.links.consider.Statement.{statement}
 use Rattle.candidates.proofs.links.consider.Tie as tie

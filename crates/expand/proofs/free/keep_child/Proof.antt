@@ -1,12 +1,12 @@
 use borrow.Author.Needs.{needs}
 use native.Mathlib.Omega.{arith}
-use Prim.Native.Nat.{_*_, _≤_, _<_}
+use Prim.Native.Nat.{_*_}
 use denote.Ref.{now}
-use lib.ListN.{length, take}
+use lib.ListN.{take}
 use Rattle.laws.proofs.Runs.{told}
 use Rattle.numbers.specs.Pools.{pooled}
 use Rattle.numbers.specs.View.{counted}
-use Rattle.numbers.proofs.Entries.{agrees-fault, agrees-last}
+use Rattle.numbers.proofs.Entries.{agrees-fault}
 use Rattle.steps.specs.Leaves.{leavesOf, leavesAfter}
 use Rattle.steps.specs.Stores.{withChildren}
 use Rattle.steps.specs.Expand.{keepChild}

@@ -14,31 +14,10 @@ use Rattle.expand.proofs.RelabelLaws.{place-within}
 use Rattle.expand.proofs.ring.relabel_ring.Statement.{statement}
 use Rattle.expand.proofs.ring.relabel_ring.Tie as tie
 
-number-requires : tie.Need-number-requires
-number-requires c κs = search needs
-
-end-in-requires : tie.Need-end-in-requires
-end-in-requires c κs = search needs
-
-enum-known-e : tie.Need-enum-known-e
-enum-known-e c = search needs
-
-enum-told : tie.Need-enum-told
-enum-told c = search needs
-
-same-length : tie.Need-same-length
-same-length c = search needs
-
 returns : tie.Need-returns
 unfolding relabelRing
 returns c =
     λ edges e s. rw (told gotEnd (rw (c .before .before .before .number .ensures) at (c .before .before .end-in .ensures)) (c .enum-told .given .1))
-
-is-missing-requires : tie.Need-is-missing-requires
-is-missing-requires c κs = search needs
-
-same-length-2 : tie.Need-same-length-2
-same-length-2 c = search needs
 
 returns-2 : tie.Need-returns-2
 unfolding relabelRing
@@ -47,24 +26,6 @@ returns-2 c =
       told gotEnd (rw (c .before .before .before .before .before .before .number .ensures) at (c .before .before .before .before .before .end-in .ensures)) (c .before .before .before .e .given .1),
       sym (c .before .is-missing .ensures) ∙ c .if1 .taken,
     )
-
-beside-requires : tie.Need-beside-requires
-beside-requires c κs = search needs
-
-number-requires-2 : tie.Need-number-requires-2
-number-requires-2 c κs = search needs
-
-node-in-requires : tie.Need-node-in-requires
-node-in-requires c κs = search needs
-
-enum-known-v : tie.Need-enum-known-v
-enum-known-v c = search needs
-
-enum-told-2 : tie.Need-enum-told-2
-enum-told-2 c = search needs
-
-same-length-3 : tie.Need-same-length-3
-same-length-3 c = search needs
 
 returns-3 : tie.Need-returns-3
 unfolding relabelRing
@@ -77,21 +38,6 @@ returns-3 c =
       endpoint-at (c .before .before .before .before .before .before .before .before .before .before .before .before .before .before .before .before .before .before .before .before .before .before .before .before .before .args .n) edges e (c .before .before .before .number2 .result),
       told gotNode (c .before .before .node-in .ensures) (c .enum-told2 .given .1),
     )
-
-number-requires-3 : tie.Need-number-requires-3
-number-requires-3 c κs = search needs
-
-group-in-requires : tie.Need-group-in-requires
-group-in-requires c κs = search needs
-
-enum-known-entry : tie.Need-enum-known-entry
-enum-known-entry c = search needs
-
-enum-told-3 : tie.Need-enum-told-3
-enum-told-3 c = search needs
-
-same-length-4 : tie.Need-same-length-4
-same-length-4 c = search needs
 
 returns-4 : tie.Need-returns-4
 unfolding relabelRing
@@ -106,9 +52,6 @@ returns-4 c =
       told gotGroup (rw (c .before .before .before .number3 .ensures) at (c .before .before .group-in .ensures)) (c .enum-told3 .given .1),
     )
 
-number-requires-4 : tie.Need-number-requires-4
-number-requires-4 c κs = search needs
-
 sub-row-len : tie.Need-sub-row-len
 sub-row-len c =
     omega (arith, c .number4 .ensures, c .before .before .before .before .before .before .before .before .before .before .before .before .before .before .before .before .before .before .before .before .before .before .before .before .before .before .before .before .before .before .before .before .pre .1)
@@ -120,15 +63,6 @@ row-len-requires c =
 place-of-requires : tie.Need-place-of-requires
 place-of-requires c =
     λ κs. (c .before .before .before .before .before .before .before .before .before .before .before .before .before .before .before .before .before .before .before .before .before .before .before .before .before .before .before .before .before .before .before .before .before .pre .0 .pass .label .pool .places, omega (arith, c .row-len .ensures), c .before .before .before .before .before .before .before .before .before .before .before .before .before .before .before .before .before .before .before .before .before .before .before .before .before .before .before .before .before .before .before .before .before .pre .1, c .before .before .before .before .before .before .before .before .before .before .before .before .before .before .before .before .before .before .before .before .before .before .before .before .before .before .before .before .before .before .before .before .before .pre .2)
-
-enum-known-i : tie.Need-enum-known-i
-enum-known-i c = search needs
-
-enum-told-4 : tie.Need-enum-told-4
-enum-told-4 c = search needs
-
-same-length-5 : tie.Need-same-length-5
-same-length-5 c = search needs
 
 returns-5 : tie.Need-returns-5
 unfolding relabelRing
@@ -148,21 +82,6 @@ returns-5 c =
 relabel-round-requires : tie.Need-relabel-round-requires
 relabel-round-requires c =
     λ κs. (c .before .before .before .before .before .before .before .before .before .before .before .before .before .before .before .before .before .before .before .before .before .before .before .before .before .before .before .before .before .before .before .before .before .before .before .before .before .before .before .before .before .before .pre .0, (record { least = c .before .before .before .before .before .before .before .before .before .before .before .before .before .before .before .before .before .before .before .before .before .before .before .before .before .before .before .before .before .before .before .before .before .before .before .before .before .before .before .before .before .before .pre .1; most = c .before .before .before .before .before .before .before .before .before .before .before .before .before .before .before .before .before .before .before .before .before .before .before .before .before .before .before .before .before .before .before .before .before .before .before .before .before .before .before .before .before .before .pre .2; used = rw (c .before .before .before .before .before .before .before .before .before .before .number4 .ensures) at (c .before .before .before .before .before .before .before .before .before .row-len .ensures) }), rw (ring-length (c .before .before .before .before .before .before .before .before .before .before .before .before .before .before .before .before .before .before .before .before .before .before .before .before .before .before .before .before .before .before .before .before .before .before .before .before .before .before .before .before .before .before .args .n) (now (c .before .before .before .before .before .before .before .before .before .before .before .before .before .before .before .before .before .before .before .before .before .before .before .before .before .before .before .before .before .before .before .before .before .before .before .before .before .before .before .before .before .before .args .counts)) (now (c .before .before .before .before .before .before .before .before .before .before .before .before .before .before .before .before .before .before .before .before .before .before .before .before .before .before .before .before .before .before .before .before .before .before .before .before .before .before .before .before .before .before .args .kids)) (c .before .before .before .before .before .before .before .before .before .before .before .before .before .before .before .before .before .before .before .before .before .before .before .before .before .before .before .before .before .before .before .before .before .before .before .before .before .before .before .before .before .before .args .b .0) (c .before .before .before .before .before .before .before .before .before .row-len .result) (record { least = c .before .before .before .before .before .before .before .before .before .before .before .before .before .before .before .before .before .before .before .before .before .before .before .before .before .before .before .before .before .before .before .before .before .before .before .before .before .before .before .before .before .before .pre .1; most = c .before .before .before .before .before .before .before .before .before .before .before .before .before .before .before .before .before .before .before .before .before .before .before .before .before .before .before .before .before .before .before .before .before .before .before .before .before .before .before .before .before .before .pre .2; used = rw (c .before .before .before .before .before .before .before .before .before .before .number4 .ensures) at (c .before .before .before .before .before .before .before .before .before .row-len .ensures) }) (c .before .before .before .before .before .before .before .before .before .before .before .before .before .before .before .before .before .before .before .before .before .before .before .before .before .before .before .before .before .before .before .before .before .before .before .before .before .before .before .before .before .before .pre .0 .pass .label .pool .places)) at (place-within (c .before .before .before .before .before .before .before .before .before .before .before .before .entry .given .0 .0 .0) (c .before .before .before .before .before .before .i .given .0 .0) (rowOf (c .before .before .before .before .before .before .before .before .before .before .before .before .before .before .before .before .before .before .before .before .before .before .before .before .before .before .before .before .before .before .before .before .before .before .before .before .before .before .before .before .before .before .args .n) (now (c .before .before .before .before .before .before .before .before .before .before .before .before .before .before .before .before .before .before .before .before .before .before .before .before .before .before .before .before .before .before .before .before .before .before .before .before .before .before .before .before .before .before .args .counts)) (now (c .before .before .before .before .before .before .before .before .before .before .before .before .before .before .before .before .before .before .before .before .before .before .before .before .before .before .before .before .before .before .before .before .before .before .before .before .before .before .before .before .before .before .args .kids)) (c .before .before .before .before .before .before .before .before .before .before .before .before .before .before .before .before .before .before .before .before .before .before .before .before .before .before .before .before .before .before .before .before .before .before .before .before .before .before .before .before .before .before .args .b .0 - c .before .before .before .before .before .before .before .before .before .before .before .before .before .before .before .before .before .before .before .before .before .before .before .before .before .before .before .before .before .before .before .before .before .before .before .before .before .before .before .before .before .before .args .n)) (told gotOf (c .before .before .before .before .before .before .before .before .place-of .ensures (now (c .before .before .before .before .before .before .before .before .before .before .before .before .before .before .before .before .before .before .before .before .before .before .before .before .before .before .before .before .before .before .before .before .before .before .before .before .before .before .before .before .before .before .args .counts)) (record { least = c .before .before .before .before .before .before .before .before .before .before .before .before .before .before .before .before .before .before .before .before .before .before .before .before .before .before .before .before .before .before .before .before .before .before .before .before .before .before .before .before .before .before .pre .1; most = c .before .before .before .before .before .before .before .before .before .before .before .before .before .before .before .before .before .before .before .before .before .before .before .before .before .before .before .before .before .before .before .before .before .before .before .before .before .before .before .before .before .before .pre .2; used = rw (c .before .before .before .before .before .before .before .before .before .before .number4 .ensures) at (c .before .before .before .before .before .before .before .before .before .row-len .ensures) })) (c .before .before .before .before .before .before .i .given .1))))
-
-same-length-6 : tie.Need-same-length-6
-same-length-6 c = search needs
-
-same-length-7 : tie.Need-same-length-7
-same-length-7 c = search needs
-
-same-length-8 : tie.Need-same-length-8
-same-length-8 c = search needs
-
-same-length-9 : tie.Need-same-length-9
-same-length-9 c = search needs
-
-same-length-10 : tie.Need-same-length-10
-same-length-10 c = search needs
 
 returns-6 : tie.Need-returns-6
 unfolding relabelRing
@@ -184,40 +103,40 @@ pub relabel-ring-spec : {M : Type 1} → statement M
 relabel-ring-spec =
     tie.close
     (tie.spec
-    number-requires
-    end-in-requires
-    enum-known-e
-    enum-told
-    same-length
+    (λ c κs. search needs)
+    (λ c κs. search needs)
+    (λ c. search needs)
+    (λ c. search needs)
+    (λ c. search needs)
     returns
-    is-missing-requires
-    same-length-2
+    (λ c κs. search needs)
+    (λ c. search needs)
     returns-2
-    beside-requires
-    number-requires-2
-    node-in-requires
-    enum-known-v
-    enum-told-2
-    same-length-3
+    (λ c κs. search needs)
+    (λ c κs. search needs)
+    (λ c κs. search needs)
+    (λ c. search needs)
+    (λ c. search needs)
+    (λ c. search needs)
     returns-3
-    number-requires-3
-    group-in-requires
-    enum-known-entry
-    enum-told-3
-    same-length-4
+    (λ c κs. search needs)
+    (λ c κs. search needs)
+    (λ c. search needs)
+    (λ c. search needs)
+    (λ c. search needs)
     returns-4
-    number-requires-4
+    (λ c κs. search needs)
     sub-row-len
     row-len-requires
     place-of-requires
-    enum-known-i
-    enum-told-4
-    same-length-5
+    (λ c. search needs)
+    (λ c. search needs)
+    (λ c. search needs)
     returns-5
     relabel-round-requires
-    same-length-6
-    same-length-7
-    same-length-8
-    same-length-9
-    same-length-10
+    (λ c. search needs)
+    (λ c. search needs)
+    (λ c. search needs)
+    (λ c. search needs)
+    (λ c. search needs)
     returns-6)

@@ -44,9 +44,6 @@ loop-holds : tie.Need-loop-holds Inv-loop μ-loop
 loop-holds c =
     (c .around .ensures .1, refl, refl, refl, refl, λ edges e s. refl)
 
-number-requires : tie.Need-number-requires Inv-loop μ-loop
-number-requires c κs = search needs
-
 sub-group-at : tie.Need-sub-group-at Inv-loop μ-loop
 sub-group-at c =
     omega (arith, c .number .ensures, c .before .before .before .before .before .before .before .before .before .before .before .before .before .pre .1 .least)
@@ -55,68 +52,17 @@ group-at-requires : tie.Need-group-at-requires Inv-loop μ-loop
 group-at-requires c =
     λ κs. omega (arith, place-in (c .before .before .before .before .before .before .before .before .before .before .before .before .before .args .n) (c .number .result - c .before .before .before .before .before .before .before .before .before .before .before .before .before .args .n) (c .before .loop .j) (omega (arith, c .number .ensures, c .before .before .before .before .before .before .before .before .before .before .before .before .before .pre .1 .least, c .before .before .before .before .before .before .before .before .before .before .before .before .before .pre .1 .most)) (omega (arith, c .before .loop .inv .0, c .before .before .before .before .before .before .before .before .before .before .before .before .before .pre .1 .used)), c .before .before .before .before .before .before .before .before .before .before .before .before .before .pre .0 .label .pool .places)
 
-number-requires-2 : tie.Need-number-requires-2 Inv-loop μ-loop
-number-requires-2 c κs = search needs
-
-number-requires-3 : tie.Need-number-requires-3 Inv-loop μ-loop
-number-requires-3 c κs = search needs
-
-same-length : tie.Need-same-length Inv-loop μ-loop
-same-length c = search needs
-
-same-length-2 : tie.Need-same-length-2 Inv-loop μ-loop
-same-length-2 c = search needs
-
-same-length-3 : tie.Need-same-length-3 Inv-loop μ-loop
-same-length-3 c = search needs
-
-same-length-4 : tie.Need-same-length-4 Inv-loop μ-loop
-same-length-4 c = search needs
-
 returns : tie.Need-returns Inv-loop μ-loop
 returns c =
     λ edges e s. rw (← c .before .before .before .before .before .before .around .ensures .0) (ap (λ (r : Run Onward). andThen r (λ o. ok (o .state))) (ward-end (graphOf (c .before .before .before .before .before .before .before .before .before .before .before .before .before .before .before .before .before .args .n) edges) (c .before .before .before .before .before .before .before .before .before .before .before .before .before .before .before .before .before .args .b .0) (c .before .before .before .before .before .before .before .before .before .before .before .before .before .before .before .before .before .args .entry .0) (c .before .before .before .before .before .before .before .before .before .before .before .before .before .before .before .before .before .args .forward) (rowOf (c .before .before .before .before .before .before .before .before .before .before .before .before .before .before .before .before .before .args .n) (now (c .before .before .before .before .before .before .before .before .before .before .before .before .before .before .before .before .before .args .counts)) (now (c .before .before .before .before .before .before .before .before .before .before .before .before .before .before .before .before .before .args .kids)) (c .before .before .before .before .before .before .before .before .before .before .before .before .before .before .before .before .before .args .b .0 - c .before .before .before .before .before .before .before .before .before .before .before .before .before .before .before .before .before .args .n)) (c .before .before .before .before .before .loop .j) (c .before .before .before .group-at .result .0) (relabelled (c .before .before .before .before .before .before .before .before .before .before .before .before .before .before .before .before .before .args .n) (c .before .before .before .before .before .loop .labels) (c .before .before .before .before .before .loop .label-ends) (c .before .before .before .before .before .loop .best) (take (c .before .before .before .before .before .loop .len) (c .before .before .before .before .before .loop .queue)) (now (c .before .before .before .before .before .before .before .before .before .before .before .before .before .before .before .before .before .args .tops)) (now (c .before .before .before .before .before .before .before .before .before .before .before .before .before .before .before .before .before .args .bases)) (now (c .before .before .before .before .before .before .before .before .before .before .before .before .before .before .before .before .before .args .mates)) (now (c .before .before .before .before .before .before .before .before .before .before .before .before .before .before .before .before .before .args .counts)) (now (c .before .before .before .before .before .before .before .before .before .before .before .before .before .before .before .before .before .args .kids)) s) (at-group (c .before .before .before .before .before .before .before .before .before .before .before .before .before .before .before .before .before .args .n) (now (c .before .before .before .before .before .before .before .before .before .before .before .before .before .before .before .before .before .args .counts)) (now (c .before .before .before .before .before .before .before .before .before .before .before .before .before .before .before .before .before .args .kids)) (c .before .before .before .before .before .before .before .before .before .before .before .before .before .before .before .before .before .args .b .0) (c .before .before .before .before .before .before .before .before .before .before .before .before .before .before .before .before .before .pre .1 .least) (c .before .before .before .before .before .before .before .before .before .before .before .before .before .before .before .before .before .pre .1 .most)) (in-ring (c .before .before .before .before .before .before .before .before .before .before .before .before .before .before .before .before .before .args .n) (now (c .before .before .before .before .before .before .before .before .before .before .before .before .before .before .before .before .before .args .counts)) (now (c .before .before .before .before .before .before .before .before .before .before .before .before .before .before .before .before .before .args .kids)) (c .before .before .before .before .before .before .before .before .before .before .before .before .before .before .before .before .before .args .b .0) (c .before .before .before .before .before .before .before .before .before .before .before .before .before .before .before .before .before .args .m) (c .before .before .before .before .before .loop .j) (c .before .before .before .before .before .before .before .before .before .before .before .before .before .before .before .before .before .pre .1) (c .before .before .before .before .before .before .before .before .before .before .before .before .before .before .before .before .before .pre .0 .label .pool .places) (c .before .before .before .before .before .loop .inv .0) ∙ ap ok (sym (rw (c .before .before .before .before .number .ensures) at (c .before .before .before .group-at .ensures)))) (c .before .before .before .before .before .loop .left) (c .before .before .before .before .before .loop .inv .5 edges e s) (sym (c .before .before .number2 .ensures) ∙ c .if1 .taken ∙ c .before .number3 .ensures)))
-
-same-length-5 : tie.Need-same-length-5 Inv-loop μ-loop
-same-length-5 c = search needs
-
-same-length-6 : tie.Need-same-length-6 Inv-loop μ-loop
-same-length-6 c = search needs
-
-same-length-7 : tie.Need-same-length-7 Inv-loop μ-loop
-same-length-7 c = search needs
-
-same-length-8 : tie.Need-same-length-8 Inv-loop μ-loop
-same-length-8 c = search needs
 
 returns-2 : tie.Need-returns-2 Inv-loop μ-loop
 returns-2 c =
     λ edges e s. rw (← c .before .before .before .before .before .before .before .around .ensures .0) (ap (λ (r : Run Onward). andThen r (λ o. ok (o .state))) (ward-spent (graphOf (c .before .before .before .before .before .before .before .before .before .before .before .before .before .before .before .before .before .before .args .n) edges) (c .before .before .before .before .before .before .before .before .before .before .before .before .before .before .before .before .before .before .args .b .0) (c .before .before .before .before .before .before .before .before .before .before .before .before .before .before .before .before .before .before .args .entry .0) (c .before .before .before .before .before .before .before .before .before .before .before .before .before .before .before .before .before .before .args .forward) (rowOf (c .before .before .before .before .before .before .before .before .before .before .before .before .before .before .before .before .before .before .args .n) (now (c .before .before .before .before .before .before .before .before .before .before .before .before .before .before .before .before .before .before .args .counts)) (now (c .before .before .before .before .before .before .before .before .before .before .before .before .before .before .before .before .before .before .args .kids)) (c .before .before .before .before .before .before .before .before .before .before .before .before .before .before .before .before .before .before .args .b .0 - c .before .before .before .before .before .before .before .before .before .before .before .before .before .before .before .before .before .before .args .n)) (c .before .before .before .before .before .before .loop .j) (c .before .before .before .before .group-at .result .0) (relabelled (c .before .before .before .before .before .before .before .before .before .before .before .before .before .before .before .before .before .before .args .n) (c .before .before .before .before .before .before .loop .labels) (c .before .before .before .before .before .before .loop .label-ends) (c .before .before .before .before .before .before .loop .best) (take (c .before .before .before .before .before .before .loop .len) (c .before .before .before .before .before .before .loop .queue)) (now (c .before .before .before .before .before .before .before .before .before .before .before .before .before .before .before .before .before .before .args .tops)) (now (c .before .before .before .before .before .before .before .before .before .before .before .before .before .before .before .before .before .before .args .bases)) (now (c .before .before .before .before .before .before .before .before .before .before .before .before .before .before .before .before .before .before .args .mates)) (now (c .before .before .before .before .before .before .before .before .before .before .before .before .before .before .before .before .before .before .args .counts)) (now (c .before .before .before .before .before .before .before .before .before .before .before .before .before .before .before .before .before .before .args .kids)) s) (at-group (c .before .before .before .before .before .before .before .before .before .before .before .before .before .before .before .before .before .before .args .n) (now (c .before .before .before .before .before .before .before .before .before .before .before .before .before .before .before .before .before .before .args .counts)) (now (c .before .before .before .before .before .before .before .before .before .before .before .before .before .before .before .before .before .before .args .kids)) (c .before .before .before .before .before .before .before .before .before .before .before .before .before .before .before .before .before .before .args .b .0) (c .before .before .before .before .before .before .before .before .before .before .before .before .before .before .before .before .before .before .pre .1 .least) (c .before .before .before .before .before .before .before .before .before .before .before .before .before .before .before .before .before .before .pre .1 .most)) (in-ring (c .before .before .before .before .before .before .before .before .before .before .before .before .before .before .before .before .before .before .args .n) (now (c .before .before .before .before .before .before .before .before .before .before .before .before .before .before .before .before .before .before .args .counts)) (now (c .before .before .before .before .before .before .before .before .before .before .before .before .before .before .before .before .before .before .args .kids)) (c .before .before .before .before .before .before .before .before .before .before .before .before .before .before .before .before .before .before .args .b .0) (c .before .before .before .before .before .before .before .before .before .before .before .before .before .before .before .before .before .before .args .m) (c .before .before .before .before .before .before .loop .j) (c .before .before .before .before .before .before .before .before .before .before .before .before .before .before .before .before .before .before .pre .1) (c .before .before .before .before .before .before .before .before .before .before .before .before .before .before .before .before .before .before .pre .0 .label .pool .places) (c .before .before .before .before .before .before .loop .inv .0) ∙ ap ok (sym (rw (c .before .before .before .before .before .number .ensures) at (c .before .before .before .before .group-at .ensures)))) (c .before .before .before .before .before .before .loop .left) (c .before .before .before .before .before .before .loop .inv .5 edges e s) (c .if2 .taken) (λ q. c .before .if1 .left (c .before .before .before .number2 .ensures ∙ q ∙ sym (c .before .before .number3 .ensures)))))
 
-sub-left : tie.Need-sub-left Inv-loop μ-loop
-sub-left c = search needs
-
 onward-child-requires : tie.Need-onward-child-requires Inv-loop μ-loop
 onward-child-requires c =
     λ κs. record { label = record { small = c .before .before .before .before .before .before .before .before .before .before .before .before .before .before .before .before .before .before .before .before .before .before .pre .0 .label .small; queue-room = c .before .before .before .before .before .before .before .before .before .before .loop .inv .4 ∙ c .before .before .before .before .before .before .before .before .before .before .before .before .before .before .before .before .before .before .before .before .before .before .pre .0 .label .queue-room; pool = c .before .before .before .before .before .before .before .before .before .before .before .before .before .before .before .before .before .before .before .before .before .before .pre .0 .label .pool }; mated = c .before .before .before .before .before .before .before .before .before .before .before .before .before .before .before .before .before .before .before .before .before .before .pre .0 .mated; ended = c .before .before .before .before .before .before .before .before .before .before .before .before .before .before .before .before .before .before .before .before .before .before .pre .0 .ended }
-
-enum-known-more : tie.Need-enum-known-more Inv-loop μ-loop
-enum-known-more c = search needs
-
-enum-told : tie.Need-enum-told Inv-loop μ-loop
-enum-told c = search needs
-
-same-length-9 : tie.Need-same-length-9 Inv-loop μ-loop
-same-length-9 c = search needs
-
-same-length-10 : tie.Need-same-length-10 Inv-loop μ-loop
-same-length-10 c = search needs
-
-same-length-11 : tie.Need-same-length-11 Inv-loop μ-loop
-same-length-11 c = search needs
-
-same-length-12 : tie.Need-same-length-12 Inv-loop μ-loop
-same-length-12 c = search needs
 
 returns-3 : tie.Need-returns-3 Inv-loop μ-loop
 returns-3 c =
@@ -149,29 +95,29 @@ onward-spec =
     mul-left
     around-requires
     loop-holds
-    number-requires
+    (λ c κs. search needs)
     sub-group-at
     group-at-requires
-    number-requires-2
-    number-requires-3
-    same-length
-    same-length-2
-    same-length-3
-    same-length-4
+    (λ c κs. search needs)
+    (λ c κs. search needs)
+    (λ c. search needs)
+    (λ c. search needs)
+    (λ c. search needs)
+    (λ c. search needs)
     returns
-    same-length-5
-    same-length-6
-    same-length-7
-    same-length-8
+    (λ c. search needs)
+    (λ c. search needs)
+    (λ c. search needs)
+    (λ c. search needs)
     returns-2
-    sub-left
+    (λ c. search needs)
     onward-child-requires
-    enum-known-more
-    enum-told
-    same-length-9
-    same-length-10
-    same-length-11
-    same-length-12
+    (λ c. search needs)
+    (λ c. search needs)
+    (λ c. search needs)
+    (λ c. search needs)
+    (λ c. search needs)
+    (λ c. search needs)
     returns-3
     around-requires-2
     loop-less
