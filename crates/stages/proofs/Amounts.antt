@@ -1,22 +1,23 @@
 -- Laws of amounts: halves and remainders of signed numbers, how far a half, a least dual and a slack are from zero.
-use mathlib.Core.Path.{_≡_, refl, sym, ap, ap₂, _∙_}
+use mathlib.Core.Path.{_≡_, refl, sym, ap}
 use mathlib.Core.Bool.{Bool, true, false, _&&_}
 use mathlib.Core.Logic.{_⊎_, inl, inr, ⊎-elim}
 use mathlib.Core.List.{List, [], _∷_}
-use Prim.Native.Nat.{ℕ, zero, suc, _+_, _*_, _-_, _/_, _%_, _<_, _≤_, _^_, zero-le}
+use Prim.Native.Nat.{ℕ, zero, suc, _+_, _*_, _/_, _%_, _<_, _≤_, zero-le}
 use native.Mathlib.Numerals.{add-one}
 use native.Mathlib.Omega.{arith}
 use lib.Dec.{eqb, ltb}
-use lib.IntN.{ℤ, pos, negsuc, negℤ, natAbs, _+ℤ_, _-ℤ_, _*ℤ_}
+use lib.IntN.{ℤ, pos, negsuc, negℤ, natAbs, _+ℤ_, _*ℤ_}
 use lib.ListN.{length, getD, take, drop, drop-of-length-le, length-take}
 use lib.Seq.{drop-cons, getD-take}
-use lib.Signed.{ltZ, mag, quotZ, remZ}
+use lib.Signed.{mag, remZ}
 use mir.Syntax.{w64}
 use mir.Val.{SFits, toZ, ofZ}
 use mir.ValLaws.{toZ-ofZ}
-use Rattle.laws.specs.Integers.{isEven, half, lesser, greater, leastFrom}
+use Rattle.laws.specs.Integers.{isEven, half, lesser, leastFrom}
 use Rattle.laws.specs.Run.{Run, ok, fault, andThen, must, at}
-use Rattle.laws.proofs.Integers.{abs-add, abs-neg, abs-double, by-test, fits-near}
+use Rattle.laws.proofs.Integers.{abs-add, abs-neg, abs-double, fits-near, leastFrom-near}
+use Rattle.laws.proofs.Loops.{each-getD}
 use Rattle.laws.proofs.Runs.{not-ok, ok-inj}
 use Rattle.matching.specs.Graph.{Edge, Graph, edge, graphOf, firstOf, secondOf, weightOf}
 use Rattle.matching.specs.Certificate.{slack, dualOf}
@@ -95,23 +96,10 @@ near-take k (suc n) [] h i = zero-le
 near-take k (suc n) (x ∷ xs) h zero = h 0
 near-take k (suc n) (x ∷ xs) h (suc i) = near-take k n xs (λ j. h (suc j)) i
 
-lesser-near : (k : ℕ) (a b : ℤ) → natAbs a ≤ k → natAbs b ≤ k → natAbs (lesser a b) ≤ k
-unfolding lesser
-lesser-near k a b h l = by-test (ltZ b a) (λ z. natAbs z ≤ k) (λ t. l) (λ t. h)
-
-pub greater-near : (k : ℕ) (a b : ℤ) → natAbs a ≤ k → natAbs b ≤ k → natAbs (greater a b) ≤ k
-unfolding greater
-greater-near k a b h l = by-test (ltZ a b) (λ z. natAbs z ≤ k) (λ t. l) (λ t. h)
-
-from-near : (k : ℕ) (a : ℤ) (l : List ℤ) → natAbs a ≤ k → NearAll k l → natAbs (leastFrom a l) ≤ k
-unfolding leastFrom
-from-near k a [] h n = h
-from-near k a (b ∷ bs) h n = from-near k (lesser a b) bs (lesser-near k a b h (n 0)) (λ i. n (suc i))
-
 dual-near : (k : ℕ) (l : List ℤ) (x : ℤ) → NearAll k l → leastDual l ≡ ok x → natAbs x ≤ k
 unfolding leastDual
 dual-near k [] x n e = not-ok e
-dual-near k (d ∷ ds) x n e = rw (← ok-inj e) (from-near k d ds (n 0) (λ i. n (suc i)))
+dual-near k (d ∷ ds) x n e = rw (← ok-inj e) (leastFrom-near k d ds (n 0) (each-getD (λ z. natAbs z ≤ k) ds (pos 0) (λ i h. n (suc i))))
 
 -- the least of the first n of a list
 pub least-near : (k n : ℕ) (l : List ℤ) (x : ℤ) → Near k l → leastDual (take n l) ≡ ok x → natAbs x ≤ k

@@ -1,5 +1,5 @@
 -- Laws of the amount of an adjustment: what an offer does, in the code's numbers and in the definition.
-use mathlib.Core.Path.{_≡_, refl, sym, ap, _∙_}
+use mathlib.Core.Path.{_≡_, refl, sym, _∙_}
 use mathlib.Core.Bool.{Bool, true, false}
 use Prim.Native.Nat.{ℕ, zero, suc, _<_, _≤_}
 use native.Mathlib.Omega.{arith}
@@ -13,7 +13,7 @@ use Rattle.laws.proofs.Runs.{then-assoc, then-same, then-fault}
 use Rattle.matching.specs.Graph.{Graph, isMissing}
 use Rattle.steps.specs.Ends.{slackOf}
 use Rattle.steps.specs.State.{State}
-use Rattle.steps.specs.Adjust.{Delta, noDelta, type1, type2, type3, type4, lessThan, offer2, offer3, delta2At, delta3At, isOutermost, delta4At, leastDual, deltaLast}
+use Rattle.steps.specs.Adjust.{Delta, type1, type2, type3, type4, lessThan, offer2, offer3, delta2At, delta3At, isOutermost, delta4At, leastDual, deltaLast}
 use Rattle.stages.proofs.Tops.{by-top, by-no-top}
 use Rattle.stages.specs.View.{kindOf, offered}
 

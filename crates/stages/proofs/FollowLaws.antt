@@ -1,12 +1,12 @@
 -- Laws of what follows an adjustment: a node queued anew, the labelled end of an edge.
-use mathlib.Core.Path.{_≡_, refl, sym, ap, _∙_}
+use mathlib.Core.Path.{_≡_, refl}
 use mathlib.Core.Bool.{Bool, true, false}
 use mathlib.Core.List.{List}
 use Prim.Native.Nat.{ℕ, _<_}
 use borrow.Author.Tests.{eq-eqb, ne-eqb, ltb-true}
 use lib.Dec.{ltb}
 use lib.ListN.{length, set}
-use Rattle.laws.specs.Run.{Run, ok, fault, andThen, if_then_else_, at, put}
+use Rattle.laws.specs.Run.{ok, fault, andThen, if_then_else_, at, put}
 use Rattle.laws.proofs.Runs.{not-ok}
 use Rattle.matching.specs.Graph.{Graph, Edge}
 use Rattle.steps.specs.State.{State}

@@ -1,19 +1,18 @@
 -- Laws of forgetting: a pool whose counts are all 0 has only empty rows.
 use mathlib.Core.Path.{_≡_, refl, sym, ap, ap₂, _∙_}
-use mathlib.Core.Bool.{Bool, true, false, not}
+use mathlib.Core.Bool.{Bool, false}
 use mathlib.Core.List.{List, [], _∷_, _++_, map}
-use Prim.Native.Nat.{ℕ, zero, suc, _+_, _*_, _-_, _<_, _≤_}
+use Prim.Native.Nat.{ℕ, zero, suc, _+_, _*_, _<_, _≤_}
 use native.Mathlib.Omega.{arith}
 use borrow.Author.Tests.{lt-ltb}
-use lib.Dec.{ltb}
-use lib.ListN.{length, getD, take, replicate}
+use lib.ListN.{length, take, replicate}
 use Rattle.laws.specs.Lists.{range}
-use Rattle.laws.specs.Rows.{rows, rowOf, places}
-use Rattle.laws.specs.Run.{Run, ok, andThen, if_then_else_, forRange}
+use Rattle.laws.specs.Run.{ok, andThen, forRange}
 use Rattle.laws.proofs.Lists.{getD-padded}
 use Rattle.matching.specs.Graph.{Edge, graphOf, missing}
 use Rattle.numbers.specs.Pools.{rowIn, pooled}
 use Rattle.numbers.specs.View.{counted}
+use Rattle.numbers.proofs.PoolLaws.{pooled-empty}
 use Rattle.numbers.specs.declared.Got.{Got}
 use Rattle.numbers.specs.declared.Got.the-variants as number
 use Rattle.steps.specs.State.{State, searching}
@@ -22,11 +21,6 @@ use Rattle.steps.specs.Steps.{forget, rootAt, openStage}
 use Rattle.labels.specs.View.{marked, labelled}
 
 module _ {A : Type 0} (f : ℕ → A) (v : A) where
-  all-same : (from k : ℕ) → ((j : ℕ) → f j ≡ v) → map f (range from k) ≡ replicate k v
-  unfolding range
-  all-same from zero h = refl
-  all-same from (suc k) h = ap₂ {C = List A} _∷_ (h from) (all-same (suc from) k h)
-
   first-same : (from n k : ℕ) → n ≤ k → ((j : ℕ) → j < from + n → f j ≡ v) → take n (map f (range from k)) ≡ replicate n v
   unfolding range
   first-same from zero k l h = refl
@@ -38,22 +32,11 @@ twice-same : {A : Type 0} (v : A) (a b : ℕ) → replicate a v ++ replicate b v
 twice-same v zero b = let e : 0 + b ≡ b = omega arith in rw e
 twice-same {A} v (suc a) b = let e : suc a + b ≡ suc (a + b) = omega arith in rw e (ap {B = List A} (λ l. v ∷ l) (twice-same v a b))
 
--- rows of no entries
-empty-row : (n : ℕ) (pool : List ℕ) (b : ℕ) → rowIn n (replicate n 0) pool b ≡ []
-empty-row n pool b = go (ltb b n)
-  where
-    none : _≡_ {A = ℕ} (getD (replicate n 0) (b - n) 0) 0
-    none = getD-padded [] n (b - n) 0
-
-    go : (t : Bool) → (if t then [] else rowOf n (replicate n 0) pool (b - n)) ≡ []
-    go true = refl
-    go false = rw none
-
 pub pooled-none : (n : ℕ) (counts pool : List ℕ) → take n (pooled n counts pool) ++ replicate n [] ≡ pooled n (replicate n 0) pool
 pooled-none n counts pool =
     let e : 2 * n ≡ n + n = omega arith in
     ap {B = List (List ℕ)} (λ l. l ++ replicate n []) (first-same (rowIn n counts pool) [] 0 n (2 * n) (omega arith) (λ j h. rw (lt-ltb j n (omega arith))))
-    ∙ twice-same [] n n ∙ ap (λ (k : ℕ). replicate k []) (sym e) ∙ sym (all-same (rowIn n (replicate n 0) pool) [] 0 (2 * n) (empty-row n pool))
+    ∙ twice-same [] n n ∙ ap (λ (k : ℕ). replicate k []) (sym e) ∙ sym (pooled-empty n (replicate n 0) pool (λ g. getD-padded [] n g 0))
 
 -- the state with its stage forgotten, from the lists as the code leaves them
 module _ (n : ℕ) (edges : List Edge) (s : State) (labels labelEnds best counts pool : List ℕ) (allowed : List Bool) where

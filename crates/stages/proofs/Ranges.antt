@@ -1,6 +1,6 @@
 -- A loop over from .. to, where the code counts i up to `to`: what is left of it, after a run r that may have faulted, is the whole.
-use mathlib.Core.Path.{_≡_, refl, sym, ap, _∙_}
-use Prim.Native.Nat.{ℕ, _+_, _*_, _-_, _<_, _≤_}
+use mathlib.Core.Path.{_≡_}
+use Prim.Native.Nat.{ℕ, _+_, _-_, _<_, _≤_}
 use native.Mathlib.Omega.{arith}
 use Rattle.laws.specs.Run.{Run, andThen, forRange}
 use Rattle.laws.proofs.Runs.{forRange-next, forRange-end}

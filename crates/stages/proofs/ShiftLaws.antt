@@ -1,13 +1,13 @@
 -- Laws of moving the duals: what fits, a store that fits, a node's move and a group's.
-use mathlib.Core.Path.{_≡_, refl, sym, ap, _∙_}
+use mathlib.Core.Path.{_≡_, refl, sym, _∙_}
 use mathlib.Core.Bool.{Bool, true, false}
-use mathlib.Core.List.{List, [], _∷_}
-use Prim.Native.Nat.{ℕ, zero, suc, _+_, _<_, _≤_, _^_}
+use mathlib.Core.List.{List}
+use Prim.Native.Nat.{ℕ, suc, _<_, _≤_}
 use native.Mathlib.Omega.{arith}
 use borrow.Author.Tests.{eq-eqb, ne-eqb, ltb-true, ltb-false, le-leb, lt-leb, leb-true, leb-false}
 use lib.Dec.{leb}
 use lib.IntN.{ℤ, pos, negsuc, negℤ, natAbs, _+ℤ_, _-ℤ_}
-use lib.ListN.{length, getD, set}
+use lib.ListN.{length, set}
 use lib.Signed.{ltZ, leZ}
 use mir.Syntax.{w64}
 use mir.Val.{SFits}
@@ -17,6 +17,7 @@ use Rattle.laws.proofs.Windows.{put-in, put-out}
 use Rattle.matching.specs.Graph.{Edge, graphOf}
 use Rattle.numbers.specs.Near.{Near}
 use Rattle.numbers.specs.View.{Agrees}
+use Rattle.numbers.proofs.NearLaws.{set-near}
 use Rattle.steps.specs.State.{State}
 use Rattle.steps.specs.Stores.{withDuals}
 use Rattle.steps.specs.Adjust.{putFitDual, moveNode, isOutermost, moveGroup, moveDuals}
@@ -46,15 +47,8 @@ module _ (d x : ℤ) (hd : natAbs d ≤ 4503599627370496) (hx : natAbs x ≤ 180
   pub less-fits : SFits w64 (d -ℤ x)
   less-fits = fits-near (d -ℤ x) (omega (arith, abs-neg x, abs-add d (negℤ x)))
 
-set-near : (k : ℕ) (l : List ℤ) (i : ℕ) (d : ℤ) → ((j : ℕ) → natAbs (getD l j (pos 0)) ≤ k) → natAbs d ≤ k → (j : ℕ) → natAbs (getD (set l i d) j (pos 0)) ≤ k
-set-near k [] i d h g j = h j
-set-near k (x ∷ xs) zero d h g zero = g
-set-near k (x ∷ xs) zero d h g (suc j) = h (suc j)
-set-near k (x ∷ xs) (suc i) d h g zero = h 0
-set-near k (x ∷ xs) (suc i) d h g (suc j) = set-near k xs i d (λ m. h (suc m)) g j
-
 pub near-set : (l : List ℤ) (i : ℕ) (d : ℤ) → Near 4503599627370496 l → leb (natAbs d) 4503599627370496 ≡ true → Near 4503599627370496 (set l i d)
-near-set l i d h g = record { near = set-near 4503599627370496 l i d (h .near) (leb-true (natAbs d) 4503599627370496 g) }
+near-set l i d h g = set-near 4503599627370496 l i d h (leb-true (natAbs d) 4503599627370496 g)
 
 -- ---- a dual that fits is stored
 

@@ -1,5 +1,5 @@
 -- Laws of opening a stage and of passing an edge.
-use mathlib.Core.Path.{_≡_, refl, sym, ap, _∙_}
+use mathlib.Core.Path.{_≡_, refl}
 use mathlib.Core.Bool.{Bool, true, false}
 use mathlib.Core.List.{List, [], _∷_}
 use Prim.Native.Nat.{ℕ, zero, suc, _*_, _/_, _<_}
@@ -9,7 +9,7 @@ use lib.Dec.{ltb}
 use lib.IntN.{ℤ, pos}
 use lib.ListN.{length, set}
 use lib.Signed.{ltZ, leZ}
-use Rattle.laws.specs.Run.{Run, ok, fault, andThen, must, at, put}
+use Rattle.laws.specs.Run.{ok, fault, andThen, must, at, put}
 use Rattle.laws.proofs.Runs.{not-ok, ok-inj}
 use Rattle.matching.specs.Graph.{Graph, edgeCount, missing, isMissing, beside, nodeAt}
 use Rattle.steps.specs.Ends.{endpoint, slackOf}

@@ -1,11 +1,10 @@
 // The amount of a dual adjustment: the least of four kinds, types 1 to 4 as in the source.
 ghost use mathlib.Core.Path.{_≡_};
-ghost use mathlib.Core.Bool.{Bool};
 ghost use mathlib.Core.List.{List};
-ghost use Prim.Native.Nat.{ℕ, _*_, _<_, _≤_};
+ghost use Prim.Native.Nat.{_*_, _<_, _≤_};
 ghost use lib.IntN.{natAbs};
 ghost use lib.ListN.{length, take};
-ghost use Rattle.laws.specs.Integers.{isEven, lesser as lesserOf, greater as greaterOf, half as halfOf};
+ghost use Rattle.laws.specs.Integers.{isEven, half as halfOf};
 ghost use Rattle.laws.specs.Run.{ok, fault, andThen, forRange};
 ghost use Rattle.matching.specs.Graph.{Edge as EdgeOf, Graph, graphOf};
 ghost use Rattle.numbers.specs.Edges.{endsOf, weightsOf};
@@ -24,8 +23,9 @@ use numbers::GotEdge;
 use numbers::Group;
 use numbers::MISSING;
 use numbers::Node;
+use numbers::amounts::greater;
+use numbers::amounts::lesser;
 use numbers::edge_in;
-use numbers::get;
 
 // The least amount found so far, its kind (0 where there is none, 1 to 4 as in the source, 5 for a fault), and the edge (kinds 2
 // and 3) or group (kind 4) that gave it. Numbers, so that it stays in registers.
@@ -70,18 +70,6 @@ fn offer(best: Delta, kind: u16, amount: i64, place: u16) -> Delta
     best
 }
 
-fn lesser(a: i64, b: i64) -> i64
-    ensures { λ r. ⌜ r ≡ lesserOf a b ⌝ }
-{
-    if b < a { b } else { a }
-}
-
-fn greater(a: i64, b: i64) -> i64
-    ensures { λ r. ⌜ r ≡ greaterOf a b ⌝ }
-{
-    if a < b { b } else { a }
-}
-
 fn is_even(k: i64) -> bool
     ensures { λ r. ⌜ r ≡ isEven k ⌝ }
 {
@@ -95,7 +83,7 @@ fn half(k: i64) -> i64
 }
 
 // The least of the first n duals.
-pub fn least_dual(duals: &[i64], n: u16) -> Amount
+fn least_dual(duals: &[i64], n: u16) -> Amount
     requires { ⌜ (n ≤ length (now duals)) × (Near 4503599627370496 (now duals)) ⌝ }
     ensures { λ r. ⌜ amountOf r ≡ leastDual (take n (now (duals .entry))) ⌝ }
 {

@@ -2,7 +2,7 @@
 ghost use mathlib.Core.Path.{_≡_};
 ghost use mathlib.Core.Bool.{true};
 ghost use mathlib.Core.List.{List};
-ghost use Prim.Native.Nat.{ℕ, _+_, _*_, _<_, _≤_};
+ghost use Prim.Native.Nat.{_+_, _*_, _<_, _≤_};
 ghost use lib.ListN.{length, take};
 ghost use Rattle.laws.specs.Run.{put};
 ghost use Rattle.matching.specs.Graph.{Edge as EdgeOf, Graph, graphOf, edgeAt};
@@ -19,7 +19,7 @@ use numbers::GotNode;
 use numbers::Node;
 
 // Edge e is allowed from now on.
-pub fn allow(allowed: &mut [bool], e: Edge) -> bool
+fn allow(allowed: &mut [bool], e: Edge) -> bool
     ensures { λ r. ⌜ Agrees (put (now (allowed .entry)) (e .0) true) r (now (allowed .exit)) ⌝ }
 {
     let k = e.number() as usize;

@@ -10,6 +10,7 @@ use numbers::group_in;
 
 pub mod delta;
 pub mod follow;
+pub mod look;
 pub mod open;
 pub mod shift;
 pub mod visit;

@@ -2,7 +2,7 @@
 ghost use mathlib.Core.Path.{_≡_};
 ghost use mathlib.Core.Bool.{false};
 ghost use mathlib.Core.List.{List, []};
-ghost use Prim.Native.Nat.{ℕ, _*_, _<_, _≤_};
+ghost use Prim.Native.Nat.{ℕ, _*_};
 ghost use lib.ListN.{length, take, replicate};
 ghost use Rattle.laws.specs.Run.{forRange};
 ghost use Rattle.matching.specs.Graph.{Edge as EdgeOf, graphOf};
@@ -21,15 +21,7 @@ use numbers::GotEnd;
 use numbers::MISSING;
 use numbers::Node;
 use numbers::end_in;
-
-// Every entry becomes x.
-fn fill(list: &mut [u16], x: u16)
-    ensures { λ r. ⌜ now (list .exit) ≡ replicate (length (now (list .entry))) x ⌝ }
-{
-    for i in 0..list.len() {
-        list[i] = x;
-    }
-}
+use numbers::fill;
 
 // No edge is allowed.
 fn forbid(allowed: &mut [bool])

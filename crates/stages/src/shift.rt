@@ -1,7 +1,7 @@
 // Moving the duals by the amount of an adjustment.
 ghost use mathlib.Core.Path.{_≡_};
 ghost use mathlib.Core.List.{List};
-ghost use Prim.Native.Nat.{ℕ, _*_, _<_, _≤_};
+ghost use Prim.Native.Nat.{_*_, _<_, _≤_};
 ghost use lib.Dec.{leb};
 ghost use lib.IntN.{natAbs};
 ghost use lib.ListN.{length};
@@ -20,9 +20,9 @@ use numbers::Got;
 use numbers::Group;
 use numbers::Node;
 
-pub const MAX_DUAL: i64 = 4503599627370496;
+const MAX_DUAL: i64 = 4503599627370496;
 
-pub const MIN_DUAL: i64 = -4503599627370496;
+const MIN_DUAL: i64 = -4503599627370496;
 
 // A dual may not leave -2^52 to 2^52.
 fn fits_dual(d: i64) -> bool

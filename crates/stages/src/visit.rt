@@ -109,7 +109,7 @@ fn keep_edge(
 }
 
 // What is found of an edge.
-pub enum Found {
+enum Found {
     Allowed,
     // not allowed, and of this slack
     Slack(i64),

@@ -1,5 +1,5 @@
 -- The definition of joining two label-1 groups, in the forms that the code finds.
-use mathlib.Core.Path.{_≡_, sym, _∙_}
+use mathlib.Core.Path.{_≡_}
 use mathlib.Core.Bool.{true, false}
 use Prim.Native.Nat.{ℕ}
 use Rattle.laws.specs.Run.{ok, fault}

@@ -1,3 +1,4 @@
+-- The laws of a node taken.
 pub mod Sizes
 pub mod JoinLaws
 pub mod VisitLaws

@@ -1,6 +1,5 @@
 -- What the routines that a step calls ask of the lists: it follows from what the step asks.
-use mathlib.Core.Path.{_≡_, _∙_}
-use mathlib.Core.Bool.{Bool}
+use mathlib.Core.Path.{_≡_, refl, _∙_}
 use mathlib.Core.List.{List}
 use Prim.Native.Nat.{ℕ, _*_, _≤_}
 use native.Mathlib.Omega.{arith}
@@ -11,7 +10,7 @@ use Rattle.labels.specs.View.{LabelFits}
 use Rattle.numbers.specs.Near.{Near}
 use Rattle.numbers.specs.Pools.{PoolFits}
 use Rattle.stages.specs.View.{SlackFits}
-use Rattle.whole.specs.View.{Lists, Fits, Table}
+use Rattle.whole.specs.View.{Lists, Fits, Table, lent}
 
 module _ (n : ℕ) (ends : List ℕ) (weights : List ℤ) (offsets far : List ℕ) (t : Table n ends weights offsets far) (l : Lists) (f : Fits n l) where
   pub few-ends : length ends ≤ 65535
@@ -83,6 +82,28 @@ fits-again f s near =
       duals = s .duals ∙ f .duals;
       near = near;
     }
+
+-- other best edges, as many as before
+pub fits-best : {n : ℕ} {l : Lists} (best : List ℕ) → Fits n l → length best ≡ length (l .best) → Fits n (lent (l .labels) (l .labelEnds) best (l .queue) (l .allowed) (l .tops) (l .parents) (l .bases) (l .mates) (l .kids) (l .links) (l .counts) (l .free) (l .lists) (l .sizes) (l .duals))
+fits-best best f e =
+    fits-again
+    f
+    (record {
+      labels = refl;
+      label-ends = refl;
+      best = e;
+      queue = refl;
+      tops = refl;
+      parents = refl;
+      bases = refl;
+      mates = refl;
+      kids = refl;
+      links = refl;
+      counts = refl;
+      free = refl;
+      duals = refl;
+    })
+    (f .near)
 
 pub pool-again : {n : ℕ} {sizes lists sizes′ lists′ : List ℕ} → PoolFits n sizes lists → length sizes′ ≡ length sizes → length lists′ ≡ length lists → PoolFits n sizes′ lists′
 pool-again f a b = record { rows = a ∙ f .rows; places = b ∙ f .places }

@@ -1,6 +1,5 @@
 -- The definition of taking a node, in the forms that the code finds.
 use mathlib.Core.Path.{_≡_, refl, sym, _∙_}
-use mathlib.Core.Logic.{⊎-elim}
 use mathlib.Core.List.{List, [], _∷_}
 use Prim.Native.Nat.{ℕ, zero, suc, _+_, _-_, _<_, _≤_}
 use native.Mathlib.Nat.{le-of-suc-le-suc, not-suc-le-zero}
@@ -9,10 +8,8 @@ use borrow.Author.Tests.{eq-eqb, ne-eqb}
 use lib.ListN.{length, getD, take, drop}
 use Rattle.laws.specs.Run.{Run, Popped, ok, fault, andThen, at, pop}
 use Rattle.edges.specs.Neighbours.{Neighbours}
-use Rattle.edges.proofs.Counts.{less-or-not}
 use Rattle.edges.proofs.Placing.{far-ends}
-use Rattle.laws.proofs.Runs.{not-ok}
-use Rattle.laws.proofs.Windows.{at-out}
+use Rattle.laws.proofs.Windows.{at-found}
 use Rattle.matching.specs.Graph.{Edge, Graph, graphOf, isGroup}
 use Rattle.numbers.specs.Edges.{endsOf}
 use Rattle.stages.proofs.Tops.{by-top, by-no-top}
@@ -58,10 +55,7 @@ module _ (G : Graph) (s : State) where
 
 -- a node whose outermost group has a label
 pub has-place : (tops labels : List ℕ) (v l : ℕ) → andThen (at tops v) (at labels) ≡ ok l → v < length tops
-has-place tops labels v l e = by-top tops labels v l e (λ t a b. at-place tops v t a)
-  where
-    at-place : (xs : List ℕ) (i x : ℕ) → at xs i ≡ ok x → i < length xs
-    at-place xs i x a = ⊎-elim (λ h. h) (λ h. not-ok (sym (at-out xs i h) ∙ a)) (less-or-not i (length xs))
+has-place tops labels v l e = by-top tops labels v l e (λ t a b. at-found tops v a)
 
 -- the node's places in the table of neighbours are the definition's; i is v as the code reads it
 module _ (n : ℕ) {ends offsets far : List ℕ} (t : Neighbours n ends offsets far) (v i : ℕ) (e : i ≡ v) (h : v < n) where

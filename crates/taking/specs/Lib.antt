@@ -1,1 +1,2 @@
+-- How many group numbers are left free.
 pub mod Left

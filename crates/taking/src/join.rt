@@ -72,7 +72,7 @@ fn meeting(
 }
 
 // Edge e between v and w, both in label-1 groups.
-pub fn join(
+pub(crate) fn join(
     ends: &[u16],
     weights: &[i64],
     offsets: &[u16],

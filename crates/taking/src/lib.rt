@@ -17,8 +17,8 @@ use numbers::Node;
 use stages::top_label;
 use whole::Went;
 
-pub mod join;
-pub mod visit;
+mod join;
+mod visit;
 
 // The last of the queue, which is a node of a label-1 group.
 pub fn take_node(

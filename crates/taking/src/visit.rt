@@ -16,11 +16,12 @@ use numbers::End;
 use numbers::GotNode;
 use numbers::Node;
 use numbers::node_in;
+use stages::look::look_on;
 use stages::visit::Passed;
 use whole::Went;
 
 // The neighbour of v at end p.
-pub fn visit_one(
+fn visit_one(
     ends: &[u16],
     weights: &[i64],
     offsets: &[u16],
@@ -107,8 +108,9 @@ pub fn visit_one(
     }
 }
 
-// The neighbours of v at the ends of a row, in order, until they end or the matching is augmented.
-pub fn visit_all(
+// The neighbours of v at the ends of a row, in order, until they end or the matching is augmented. A neighbour that a look settles is
+// not visited.
+pub(crate) fn visit_all(
     ends: &[u16],
     weights: &[i64],
     offsets: &[u16],
@@ -142,46 +144,49 @@ pub fn visit_all(
     let mut u = unused;
     let mut i = 0;
     while i < row.len() {
-        let went = visit_one(
-            ends,
-            weights,
-            offsets,
-            far,
-            labels,
-            label_ends,
-            best,
-            queue,
-            k,
-            allowed,
-            tops,
-            parents,
-            bases,
-            mates,
-            kids,
-            links,
-            counts,
-            free,
-            u,
-            lists,
-            sizes,
-            duals,
-            n,
-            v,
-            End(row[i]),
-        );
-        match went {
-            Went::Bad => {
-                return Went::Bad;
+        i = look_on(ends, weights, duals, allowed, labels, best, tops, v, row, i);
+        if i < row.len() {
+            let went = visit_one(
+                ends,
+                weights,
+                offsets,
+                far,
+                labels,
+                label_ends,
+                best,
+                queue,
+                k,
+                allowed,
+                tops,
+                parents,
+                bases,
+                mates,
+                kids,
+                links,
+                counts,
+                free,
+                u,
+                lists,
+                sizes,
+                duals,
+                n,
+                v,
+                End(row[i]),
+            );
+            match went {
+                Went::Bad => {
+                    return Went::Bad;
+                }
+                Went::Over(a, b) => {
+                    return Went::Over(a, b);
+                }
+                Went::On(a, b) => {
+                    k = a;
+                    u = b;
+                }
             }
-            Went::Over(a, b) => {
-                return Went::Over(a, b);
-            }
-            Went::On(a, b) => {
-                k = a;
-                u = b;
-            }
+            i += 1;
         }
-        i += 1;
     }
     Went::On(k, u)
 }

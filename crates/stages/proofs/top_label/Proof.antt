@@ -1,7 +1,7 @@
 use borrow.Author.Needs.{needs}
-use mathlib.Core.Path.{sym, _∙_}
+use mathlib.Core.Path.{_∙_}
 use Rattle.laws.proofs.Runs.{told}
-use Rattle.numbers.specs.View.{gotOf, gotGroup}
+use Rattle.numbers.specs.View.{gotGroup}
 use Rattle.stages.proofs.top_label.Statement.{statement}
 use Rattle.stages.proofs.top_label.Tie as tie
 use Rattle.stages.proofs.top_label.Reads as reads

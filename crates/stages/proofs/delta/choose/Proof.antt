@@ -1,9 +1,8 @@
 use borrow.Author.Needs.{needs}
-use mathlib.Core.Path.{_≡_, _∙_}
-use Prim.Native.Nat.{_*_, _≤_}
+use mathlib.Core.Path.{_∙_}
+use Prim.Native.Nat.{_*_}
 use native.Mathlib.Omega.{arith}
 use denote.Ref.{now}
-use lib.ListN.{length}
 use Rattle.laws.specs.Run.{forRange}
 use Rattle.matching.specs.Graph.{graphOf}
 use Rattle.steps.specs.Adjust.{delta1, delta2At, delta3At, delta4At, deltaLast, chooseDelta}

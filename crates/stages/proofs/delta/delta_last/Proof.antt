@@ -1,22 +1,22 @@
 use borrow.Author.Needs.{needs}
-use mathlib.Core.Path.{_≡_, sym, _∙_}
+use mathlib.Core.Path.{_∙_}
 use native.Mathlib.Omega.{arith}
 use denote.Ref.{now}
 use lib.IntN.{pos}
 use mir.Syntax.{w64}
 use mir.ValLaws.{toZ-ofZ}
+use Rattle.laws.proofs.Integers.{greater-near}
 use Rattle.laws.proofs.Runs.{told}
 use Rattle.matching.specs.Graph.{graphOf}
 use Rattle.edges.specs.View.{amountOf}
 use Rattle.steps.specs.Stores.{withDuals}
-use Rattle.stages.proofs.Amounts.{least-near, greater-near}
+use Rattle.stages.proofs.Amounts.{least-near}
 use Rattle.stages.proofs.DeltaLaws.{last-kept, last-out, last-of}
 use Rattle.stages.proofs.delta.delta_last.Statement.{statement}
 use Rattle.stages.proofs.delta.delta_last.Tie as tie
 use Rattle.stages.proofs.delta.delta_last.Reads as reads
 use Rattle.stages.proofs.delta.delta_last.Lts as lts
 use Rattle.stages.proofs.delta.failed.Reads as failed-reads
-use Rattle.stages.proofs.delta.greater.Reads as greater-reads
 use Rattle.stages.proofs.delta.least_dual.Reads as least-dual-reads
 
 returns : tie.Need-returns

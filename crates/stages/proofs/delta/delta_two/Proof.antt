@@ -1,9 +1,7 @@
-use borrow.Author.Needs.{needs}
 use mathlib.Core.Path.{_≡_}
-use Prim.Native.Nat.{ℕ, _*_, _-_, _<_, _≤_}
+use Prim.Native.Nat.{_-_, _≤_}
 use native.Mathlib.Omega.{arith}
 use denote.Ref.{now}
-use lib.ListN.{length}
 use Rattle.laws.specs.Run.{andThen, forRange}
 use Rattle.matching.specs.Graph.{Graph}
 use Rattle.numbers.specs.Edges.{endsOf, weightsOf}

@@ -1,8 +1,7 @@
 use borrow.Author.Needs.{needs}
-use mathlib.Core.Path.{_≡_, sym, _∙_}
+use mathlib.Core.Path.{sym, _∙_}
 use denote.Ref.{now}
 use Rattle.laws.proofs.Runs.{told}
-use Rattle.laws.specs.Run.{Run, ok}
 use Rattle.numbers.specs.View.{gotOf, gotEdge}
 use Rattle.stages.specs.View.{deltaOf, reached}
 use Rattle.stages.proofs.DeltaLaws.{two-unlabelled, two-none, two-labelled, two-missing, two-at}

@@ -1,9 +1,6 @@
-use mathlib.Core.Path.{_∙_}
 use native.Mathlib.Omega.{arith}
 use mir.Syntax.{w64}
-use mir.Val.{SFits}
 use mir.ValLaws.{toZ-ofZ}
-use lib.IntN.{ℤ}
 use Rattle.laws.specs.Integers.{half}
 use Rattle.stages.proofs.Amounts.{half-fits}
 use Rattle.stages.proofs.delta.half.Statement.{statement}

@@ -1,6 +1,5 @@
 use borrow.Author.Needs.{needs}
 use denote.Ref.{now}
-use mathlib.Core.Path.{_≡_, sym, _∙_}
 use Prim.Native.Nat.{_<_}
 use lib.ListN.{length}
 use native.Mathlib.Omega.{arith}

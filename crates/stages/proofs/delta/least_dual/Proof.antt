@@ -1,23 +1,20 @@
 use borrow.Author.Needs.{needs}
 use mathlib.Core.Path.{_≡_}
-use Prim.Native.Nat.{ℕ, _-_, _<_, _≤_, _^_}
+use Prim.Native.Nat.{_-_, _≤_}
 use native.Mathlib.Omega.{arith}
 use denote.Ref.{now}
-use lib.IntN.{ℤ, pos}
-use lib.ListN.{length, getD, take, drop}
+use lib.ListN.{take, drop}
 use mir.Syntax.{w64}
-use mir.Val.{toZ, ofZ}
+use mir.Val.{toZ}
 use mir.ValLaws.{toZ-ofZ}
 use Rattle.laws.specs.Integers.{lesser, leastFrom}
 use Rattle.laws.specs.Run.{ok}
-use Rattle.laws.proofs.Integers.{fits-near}
 use Rattle.steps.specs.Adjust.{leastDual}
 use Rattle.stages.proofs.Amounts.{entry-plain, least-start, least-none, least-next, least-end}
 use Rattle.stages.proofs.delta.least_dual.Statement.{statement}
 use Rattle.stages.proofs.delta.least_dual.Tie as tie
 use Rattle.stages.proofs.delta.least_dual.Reads as reads
 use Rattle.stages.proofs.delta.least_dual.Lts as lts
-use Rattle.stages.proofs.delta.lesser.Reads as lesser-reads
 
 abbrev Inv-loop : tie.InvT-loop
 Inv-loop duals n d₀ v₀ d v = (v ≤ n) × (leastDual (take n duals) ≡ ok (leastFrom (toZ w64 d) (drop v (take n duals))))

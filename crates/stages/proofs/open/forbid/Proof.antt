@@ -1,12 +1,12 @@
 use borrow.Author.Needs.{needs}
-use mathlib.Core.Path.{_≡_, refl, sym, ap, _∙_}
+use mathlib.Core.Path.{_≡_, refl, _∙_}
 use mathlib.Core.Bool.{false}
 use mathlib.Core.List.{_++_}
-use Prim.Native.Nat.{ℕ, _+_, _-_, _<_, _≤_}
+use Prim.Native.Nat.{_-_, _≤_}
 use native.Mathlib.Omega.{arith}
 use denote.Ref.{now}
 use lib.ListN.{length, drop, replicate, length-set}
-use Rattle.stages.proofs.Fills.{fill-next, fill-end}
+use Rattle.laws.proofs.Windows.{fill-more, fill-all}
 use Rattle.stages.proofs.open.forbid.Statement.{statement}
 use Rattle.stages.proofs.open.forbid.Tie as tie
 use Rattle.stages.proofs.open.forbid.Reads as reads
@@ -37,7 +37,7 @@ loop-less c =
 loop-again : tie.Need-loop-again Inv-loop μ-loop
 loop-again c =
     let a = c .before .before .args in let l = c .before .loop in
-    (omega arith, (simp length-set) ∙ l .inv .1, rw (l .inv .2) (fill-next false (l .i) (now (a .allowed)) (c .loop-test .taken)))
+    (omega arith, (simp length-set) ∙ l .inv .1, rw (l .inv .2) (fill-more (now (a .allowed)) false (l .i) (c .loop-test .taken)))
 
 same-length : tie.Need-same-length Inv-loop μ-loop
 same-length c =
@@ -46,7 +46,7 @@ same-length c =
 returns : tie.Need-returns Inv-loop μ-loop
 returns c =
     let a = c .before .before .args in let l = c .before .loop in let e : l .i ≡ length (now (a .allowed)) = omega (arith, c .loop-test .left) in
-    l .inv .2 ∙ fill-end false (l .i) (now (a .allowed)) e
+    l .inv .2 ∙ fill-all (now (a .allowed)) false (l .i) e
 
 pub forbid-spec : {M : Type 1} → statement M
 forbid-spec =

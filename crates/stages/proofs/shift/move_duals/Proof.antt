@@ -1,14 +1,10 @@
 use borrow.Author.Needs.{needs}
-use mathlib.Core.Path.{_≡_, sym, _∙_}
-use Prim.Native.Nat.{_*_, _≤_}
-use native.Mathlib.Omega.{arith}
+use mathlib.Core.Path.{_∙_}
 use borrow.Author.Tests.{not-true, not-false}
 use denote.Ref.{now}
-use lib.ListN.{length}
 use mir.Syntax.{w64}
 use mir.ValLaws.{toZ-ofZ}
 use Rattle.numbers.proofs.Entries.{agrees, agrees-fault}
-use Rattle.steps.specs.Stores.{withTops, withBases, withParents}
 use Rattle.steps.specs.Adjust.{moveDuals}
 use Rattle.stages.specs.View.{weighed}
 use Rattle.stages.proofs.ShiftLaws.{agrees-same, move-both}

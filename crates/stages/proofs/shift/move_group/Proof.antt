@@ -1,6 +1,6 @@
 use borrow.Author.Needs.{needs}
-use mathlib.Core.Path.{_≡_, sym, ap, _∙_}
-use Prim.Native.Nat.{_<_, _≤_}
+use mathlib.Core.Path.{ap, _∙_}
+use Prim.Native.Nat.{_<_}
 use native.Mathlib.Omega.{arith}
 use borrow.Author.Tests.{not-true, not-false}
 use denote.Ref.{now}
@@ -10,7 +10,7 @@ use mir.Syntax.{w64}
 use mir.ValLaws.{toZ-ofZ}
 use Rattle.laws.specs.Run.{ok}
 use Rattle.laws.proofs.Windows.{at-in}
-use Rattle.numbers.proofs.Entries.{entry-in, agrees, agrees-fault}
+use Rattle.numbers.proofs.Entries.{entry-in, agrees}
 use Rattle.stages.specs.View.{grouped}
 use Rattle.stages.proofs.Amounts.{entry-plain}
 use Rattle.stages.proofs.ShiftLaws.{agrees-same, sum-fits, less-fits, group-inner, group-one, group-two, group-free}
