@@ -5,13 +5,21 @@ ghost use lib.IntN.{pos};
 ghost use lib.ListN.{length, replicate};
 ghost use Rattle.matching.specs.Graph.{missing};
 use numbers::MISSING;
+use numbers::fill;
 
 // A list of mates or parents: all missing.
 pub fn clear(list: &mut [u16])
     ensures { λ r. ⌜ now (list .exit) ≡ replicate (length (now (list .entry))) missing ⌝ }
 {
-    for k in 0..list.len() {
-        list[k] = MISSING;
+    fill(list, MISSING);
+}
+
+// A list of duals: all x.
+pub fn fill_duals(duals: &mut [i64], x: i64)
+    ensures { λ r. ⌜ now (duals .exit) ≡ replicate (length (now (duals .entry))) x ⌝ }
+{
+    for k in 0..duals.len() {
+        duals[k] = x;
     }
 }
 
@@ -19,9 +27,7 @@ pub fn clear(list: &mut [u16])
 pub fn clear_duals(duals: &mut [i64])
     ensures { λ r. ⌜ now (duals .exit) ≡ replicate (length (now (duals .entry))) (pos 0) ⌝ }
 {
-    for k in 0..duals.len() {
-        duals[k] = 0;
-    }
+    fill_duals(duals, 0);
 }
 
 // The list `to` becomes a copy of `from`.

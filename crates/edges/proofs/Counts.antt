@@ -1,26 +1,18 @@
 -- How many entries of a list are a number, and how many are below it.
 use mathlib.Core.Path.{_≡_, refl, sym, ap, _∙_}
-use mathlib.Core.Bool.{Bool, true, false, not}
-use mathlib.Core.Logic.{_≢_, _⊎_, inl, inr, ⊎-elim}
+use mathlib.Core.Logic.{_≢_, ⊎-elim}
 use mathlib.Core.List.{List, [], _∷_}
-use Prim.Native.Nat.{ℕ, zero, suc, _+_, _-_, _<_, _≤_, zero-le}
+use Prim.Native.Nat.{ℕ, zero, suc, _+_, _<_, _≤_, zero-le}
 use native.Mathlib.Numerals.{add-one}
 use native.Mathlib.Omega.{arith}
 use borrow.Author.Tests.{lt-ltb, le-ltb}
-use lib.Dec.{T, ltb, eqb, ltb→lt, nltb→le}
+use lib.Dec.{ltb, eqb}
 use lib.ListN.{length, getD, set, drop, replicate, getD-replicate, drop-of-length-le}
 use lib.Seq.{drop-cons, getD-set-same, getD-set-other}
 use Rattle.laws.specs.Lists.{bit}
 use Rattle.laws.specs.Times.{times}
-use Rattle.laws.proofs.Times.{same-or-not, bit-same, bit-other, bit-le, times-nil, times-here, times-later}
+use Rattle.laws.proofs.Times.{same-or-not, less-or-not, bit-same, bit-other, bit-le, times-nil, times-here, times-later}
 use Rattle.edges.specs.Neighbours.{Counted, sumTo, Summed}
-
-pub less-or-not : (x y : ℕ) → (x < y) ⊎ (y ≤ x)
-less-or-not x y = go (ltb x y) (ltb→lt x y) (nltb→le x y)
-  where
-    go : (t : Bool) → (T t → x < y) → (T (not t) → y ≤ x) → (x < y) ⊎ (y ≤ x)
-    go true f g = inl (f tt)
-    go false f g = inr (g tt)
 
 bit-below : (x v : ℕ) → x < v → bit (ltb x v) ≡ 1
 bit-below x v h = rw (lt-ltb x v h)

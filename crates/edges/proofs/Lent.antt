@@ -1,7 +1,7 @@
 -- A graph and the lists in which it is lent: the node at an end, an edge's nodes, weight and slack.
 use mathlib.Core.Path.{_≡_, refl, sym, ap, _∙_}
 use mathlib.Core.List.{List, [], _∷_}
-use Prim.Native.Nat.{ℕ, zero, suc, _+_, _*_, _-_, _<_, _≤_}
+use Prim.Native.Nat.{ℕ, zero, suc, _+_, _*_, _<_, _≤_}
 use native.Mathlib.Omega.{arith}
 use borrow.Author.Tests.{lt-ltb, le-ltb}
 use lib.IntN.{ℤ, pos, _+ℤ_, _-ℤ_, _*ℤ_}
@@ -11,28 +11,22 @@ use Rattle.laws.proofs.Windows.{at-in, at-out}
 use Rattle.matching.specs.Graph.{Edge, Graph, edge, edgeCount, firstOf, secondOf, weightOf, edgeAt}
 use Rattle.matching.specs.Certificate.{slack, dualOf}
 use Rattle.numbers.specs.Edges.{endsOf, weightsOf}
-use Rattle.numbers.proofs.EdgeLaws.{length-endsOf, length-weightsOf}
+use Rattle.numbers.proofs.EdgeLaws.{first-next, second-next, length-endsOf, length-weightsOf}
 use Rattle.steps.specs.Ends.{slackOf}
 
 -- ---- lists of edges
-
-two-more : (e : ℕ) → 2 * suc e ≡ suc (suc (2 * e))
-two-more e = omega arith
-
-three-more : (e : ℕ) → 2 * suc e + 1 ≡ suc (suc (2 * e + 1))
-three-more e = omega arith
 
 first-in : (xs : List Edge) (e : ℕ) (d : Edge) → e < length xs → getD xs e d .first ≡ getD (endsOf xs) (2 * e) 0
 unfolding endsOf
 first-in [] e d h = let no-way : ⊥ = omega arith in absurd no-way
 first-in (x ∷ xs) zero d h = refl
-first-in (x ∷ xs) (suc e) d h = rw (two-more e) (first-in xs e d (omega arith))
+first-in (x ∷ xs) (suc e) d h = rw (first-next e) (first-in xs e d (omega arith))
 
 second-in : (xs : List Edge) (e : ℕ) (d : Edge) → e < length xs → getD xs e d .second ≡ getD (endsOf xs) (2 * e + 1) 0
 unfolding endsOf
 second-in [] e d h = let no-way : ⊥ = omega arith in absurd no-way
 second-in (x ∷ xs) zero d h = refl
-second-in (x ∷ xs) (suc e) d h = rw (three-more e) (second-in xs e d (omega arith))
+second-in (x ∷ xs) (suc e) d h = rw (second-next e) (second-in xs e d (omega arith))
 
 weight-in : (xs : List Edge) (e : ℕ) (d : Edge) → e < length xs → getD xs e d .weight ≡ getD (weightsOf xs) e (pos 0)
 unfolding weightsOf

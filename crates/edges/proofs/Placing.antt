@@ -1,23 +1,20 @@
 -- The table of neighbours while its entries are placed, from the last end to the first, and what it says of the graph.
 use mathlib.Core.Path.{_≡_, refl, sym, ap, ap₂, _∙_}
-use mathlib.Core.Bool.{Bool, true, false}
 use mathlib.Core.Logic.{_≢_, ⊎-elim}
 use mathlib.Core.List.{List, [], _∷_}
-use Prim.Native.Nat.{ℕ, zero, suc, _+_, _*_, _-_, _%_, _<_, _≤_}
+use Prim.Native.Nat.{ℕ, suc, _+_, _*_, _-_, _<_, _≤_}
 use native.Mathlib.Numerals.{add-one}
 use native.Mathlib.Omega.{arith}
 use borrow.Author.Tests.{eq-eqb, ne-eqb}
-use lib.Dec.{eqb}
 use lib.ListN.{length, getD, set, take, drop, drop-of-length-le, length-set}
 use lib.Seq.{drop-cons, getD-set-same, getD-set-other, drop-set-lt, drop-set-add, take-set-le}
-use Rattle.laws.specs.Run.{if_then_else_}
 use Rattle.laws.specs.Times.{times}
-use Rattle.laws.proofs.Times.{same-or-not, times-nil}
+use Rattle.laws.proofs.Times.{same-or-not, times-nil, less-or-not}
 use Rattle.matching.specs.Graph.{Edge, Graph, beside}
 use Rattle.numbers.specs.Edges.{endsOf}
 use Rattle.steps.specs.Ends.{farEnds, farEndsFrom}
 use Rattle.edges.specs.Neighbours.{farFrom, Neighbours, Counted, Summed, sumTo}
-use Rattle.edges.proofs.Counts.{less-or-not, below, below-next, below-le, below-mono, times-drop, back, back-here, back-other, sum-below}
+use Rattle.edges.proofs.Counts.{below, below-next, below-le, below-mono, times-drop, back, back-here, back-other, sum-below}
 
 -- ---- a part of a list after a store
 

@@ -5,7 +5,6 @@ use mathlib.Core.List.{List, [], _∷_}
 use Prim.Native.Nat.{ℕ, zero, suc, _+_, _-_, _<_, _≤_}
 use lib.Dec.{eqb}
 use lib.ListN.{length, getD, take, drop}
-use Rattle.laws.specs.Lists.{bit}
 use Rattle.laws.specs.Run.{if_then_else_}
 use Rattle.laws.specs.Times.{times}
 use Rattle.matching.specs.Graph.{beside}

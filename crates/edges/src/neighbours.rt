@@ -2,25 +2,18 @@
 // before far[offsets[v + 1]]. The ends at each node are counted, the counts summed, and the ends put in their places, last first.
 ghost use mathlib.Core.List.{List};
 ghost use mathlib.Core.Path.{_≡_};
-ghost use Prim.Native.Nat.{ℕ, _+_, _*_, _<_, _≤_};
-ghost use lib.ListN.{length, replicate};
+ghost use Prim.Native.Nat.{ℕ, _+_, _<_, _≤_};
+ghost use lib.ListN.{length};
 ghost use Rattle.edges.specs.Neighbours.{Neighbours, Counted, Summed, sumTo};
 use numbers::End;
-
-fn clear(list: &mut [u16])
-    ensures { λ r. ⌜ now (list .exit) ≡ replicate (length (now (list .entry))) 0 ⌝ }
-{
-    for k in 0..list.len() {
-        list[k] = 0;
-    }
-}
+use numbers::fill;
 
 // How many ends are at each node.
 fn count_ends(ends: &[u16], n: u16, counts: &mut [u16])
     requires { ⌜ (length (now counts) ≡ n + 1) × (length (now ends) ≤ 32768) ⌝ }
     ensures { λ r. ⌜ Counted n (now (ends .entry)) (now (counts .exit)) ⌝ }
 {
-    clear(counts);
+    fill(counts, 0);
     let mut p = ends.len();
     while p > 0 {
         p -= 1;

@@ -1,7 +1,7 @@
 // The ring of a new group: its base child first, then the first path backward, then the second path. Each child has a ring end.
 ghost use mathlib.Core.Path.{_≡_};
-ghost use mathlib.Core.List.{List, [], _∷_, _++_, reverse, map};
-ghost use Prim.Native.Nat.{ℕ, _+_, _*_, _<_, _≤_};
+ghost use mathlib.Core.List.{[], _∷_, _++_, reverse, map};
+ghost use Prim.Native.Nat.{_+_, _*_, _<_, _≤_};
 ghost use lib.ListN.{length, take, drop};
 ghost use Rattle.laws.specs.Lists.{member as memberOf, repeats as repeatsOf};
 ghost use Rattle.matching.specs.Graph.{beside};

@@ -1,6 +1,6 @@
 // The nodes of a group: child after child, each child's nodes in turn.
 ghost use mathlib.Core.Path.{_≡_};
-ghost use Prim.Native.Nat.{ℕ, _≤_};
+ghost use Prim.Native.Nat.{_≤_};
 ghost use lib.ListN.{length, take};
 ghost use Rattle.numbers.specs.View.{counted};
 ghost use Rattle.numbers.specs.Pools.{pooled, PoolFits};

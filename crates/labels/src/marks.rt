@@ -1,7 +1,7 @@
 // How a label is given: labels, label ends, best edges and the queue.
 ghost use mathlib.Core.Path.{_≡_};
 ghost use mathlib.Core.List.{List};
-ghost use Prim.Native.Nat.{ℕ, _*_, _≤_};
+ghost use Prim.Native.Nat.{_*_, _≤_};
 ghost use lib.ListN.{length, take};
 ghost use Rattle.matching.specs.Graph.{Edge as EdgeOf, graphOf};
 ghost use Rattle.numbers.specs.View.{Agrees, counted, gotEnd};
@@ -35,7 +35,7 @@ pub fn enqueue(queue: &mut [u16], queued: u16, n: u16, v: Node) -> Got
 }
 
 // Node w and its outermost group b, both unlabelled, get label t through end p.
-pub fn mark(
+fn mark(
     labels: &mut [u16],
     label_ends: &mut [u16],
     best: &mut [u16],

@@ -29,7 +29,7 @@ use numbers::node_in;
 use numbers::store;
 
 // One turn of the walk: a mark met, with the base there; a step back; or a fault.
-pub enum Hop {
+enum Hop {
     Meet(Node),
     On(Node),
     Bad,

@@ -161,6 +161,20 @@ greater-ge a b = by-test (ltZ a b) (λ z. (a ≤ℤ z) × (b ≤ℤ z)) (λ t. b
     above : b ≤ℤ a → (a ≤ℤ a) × (b ≤ℤ a)
     above h = omega (arith, parts)
 
+-- as near to zero as both are
+pub lesser-near : (k : ℕ) (a b : ℤ) → natAbs a ≤ k → natAbs b ≤ k → natAbs (lesser a b) ≤ k
+unfolding lesser
+lesser-near k a b h l = by-test (ltZ b a) (λ z. natAbs z ≤ k) (λ t. l) (λ t. h)
+
+pub greater-near : (k : ℕ) (a b : ℤ) → natAbs a ≤ k → natAbs b ≤ k → natAbs (greater a b) ≤ k
+unfolding greater
+greater-near k a b h l = by-test (ltZ a b) (λ z. natAbs z ≤ k) (λ t. l) (λ t. h)
+
+pub leastFrom-near : (k : ℕ) (a : ℤ) (l : List ℤ) → natAbs a ≤ k → Each (λ z. natAbs z ≤ k) l → natAbs (leastFrom a l) ≤ k
+unfolding leastFrom
+leastFrom-near k a [] h e = h
+leastFrom-near k a (b ∷ bs) h e = leastFrom-near k (lesser a b) bs (lesser-near k a b h (e .0)) (e .1)
+
 leastFrom-le : (a : ℤ) (l : List ℤ) → (leastFrom a l ≤ℤ a) × Each (λ b. leastFrom a l ≤ℤ b) l
 unfolding leastFrom
 leastFrom-le a [] = (≤ℤ-refl a, tt)

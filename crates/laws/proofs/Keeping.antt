@@ -7,7 +7,7 @@ use lib.Dec.{T, ltb, ltb→lt}
 use lib.ListN.{length, getD, set}
 use Rattle.laws.specs.Lists.{Each}
 use Rattle.laws.specs.Run.{Run, ok, fault, _>>=_, if_then_else_, must, onlyIf, forEach, while, at, put, push, pop}
-use Rattle.laws.proofs.Sure.{Kept, kept, torn, kept-bind, kept-at, kept-put}
+use Rattle.laws.proofs.Kept.{Kept, kept, torn, kept-bind, kept-at, kept-put}
 
 -- ---- one thing at a time
 
@@ -108,10 +108,6 @@ module _ {A : Type 0} {P : A → Type 0} where
   pub agree-same : {m m′ : Run A} → Agree P m m′ → m ≡ m′
   agree-same (agree p) = refl
   agree-same both-torn = refl
-
-  pub agree-map : {Q : A → Type 0} {m m′ : Run A} → ((a : A) → P a → Q a) → Agree P m m′ → Agree Q m m′
-  agree-map k (agree {a = a} p) = agree (k a p)
-  agree-map k both-torn = both-torn
 
 module _ {A B : Type 0} {Q : A → Type 0} {P : B → Type 0} where
   pub agree-bind : {m m′ : Run A} {f f′ : A → Run B} → Agree Q m m′ → ((a : A) → Q a → Agree P (f a) (f′ a)) → Agree P (m >>= f) (m′ >>= f′)

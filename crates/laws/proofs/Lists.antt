@@ -13,6 +13,10 @@ use lib.ListN.{length, getD, replicate}
 use Rattle.laws.specs.Lists.{Each, Some, EachPair, range, keep, sum, total}
 use Rattle.laws.proofs.Integers.{abs-add, up, down, add-parts, pos-parts}
 
+-- counting on by one: the first is one further, and one is left less
+pub count-on : (from left : ℕ) → suc from + left ≡ from + suc left
+count-on from left = omega arith
+
 -- ---- each of a list
 
 pub each : {A : Type 0} {P : A → Type 0} → ((x : A) → P x) → (l : List A) → Each P l
@@ -38,11 +42,11 @@ unfolding range
 length-range s zero = refl
 length-range s (suc c) = ap suc (length-range (suc s) c)
 
-pub getD-range : (s c i : ℕ) → i < c → getD (range s c) i 0 ≡ s + i
+pub getD-range : (s c i d : ℕ) → i < c → getD (range s c) i d ≡ s + i
 unfolding range
-getD-range s zero i h = let no-way : ⊥ = omega arith in absurd no-way
-getD-range s (suc c) zero h = omega arith
-getD-range s (suc c) (suc i) h = omega (arith, getD-range (suc s) c i (omega arith))
+getD-range s zero i d h = let no-way : ⊥ = omega arith in absurd no-way
+getD-range s (suc c) zero d h = omega arith
+getD-range s (suc c) (suc i) d h = omega (arith, getD-range (suc s) c i d (omega arith))
 
 pub range-at : (P : ℕ → Type 0) (s c i : ℕ) → Each P (range s c) → s ≤ i → i < s + c → P i
 unfolding range

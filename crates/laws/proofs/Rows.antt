@@ -2,23 +2,20 @@
 use mathlib.Core.Path.{_≡_, refl, sym, ap, ap₂, _∙_}
 use mathlib.Core.Bool.{Bool, true, false, not}
 use mathlib.Core.Logic.{_≢_, ⊎-elim}
-use mathlib.Core.List.{List, _∷_, _++_, [], map, append-assoc}
+use mathlib.Core.List.{List, _∷_, _++_, map, append-assoc}
 use Prim.Native.Nat.{ℕ, zero, suc, _+_, _*_, _-_, _≤_, _<_, min}
 use native.Mathlib.Nat.{not-suc-le-zero, le-of-suc-le-suc, add-zero, mul-le-mul-right, eq-or-lt-of-le}
-use native.Mathlib.Numerals.{add-one}
 use native.Mathlib.Omega.{arith}
 use lib.Dec.{T, ltb, ltb→lt, nltb→le}
 use lib.ListN.{length, getD, set, take, drop, length-take, length-drop, length-append, replicate}
-use lib.Seq.{getD-take, getD-drop, getD-set-same, getD-set-other, drop-set-add, drop-set-lt, take-set-le, take-suc-set, set-set, take-at, take-all, take-take, drop-at, take-append-le, drop-append-le, drop-append-add}
+use lib.Seq.{getD-take, getD-drop, drop-set-add, drop-set-lt, take-set-le, take-at, take-all, take-take, drop-at, take-append-le, drop-append-le, drop-append-add}
 use Rattle.laws.specs.Lists.{range}
 use Rattle.laws.specs.Run.{ok, fault, at, put}
 use Rattle.laws.specs.Rows.{rows, places, rowOf}
-use Rattle.laws.proofs.Windows.{at-in, at-out, put-in, take-set}
+use Rattle.laws.proofs.Lists.{count-on}
+use Rattle.laws.proofs.Windows.{at-in, at-out, put-in}
 
 -- ---- rows that a function gives
-
-shift : (a b : ℕ) → suc a + b ≡ a + suc b
-shift a b = omega arith
 
 at-zero : (j : ℕ) → 0 + j ≡ j
 at-zero j = omega arith
@@ -29,7 +26,7 @@ module _ {A : Type 0} where
   at-rowsFrom f from zero i h = absurd (not-suc-le-zero h)
   at-rowsFrom f from (suc k) zero h = rw add-zero
   at-rowsFrom f from (suc k) (suc i) h =
-      at-rowsFrom f (suc from) k i (le-of-suc-le-suc h) ∙ ap (λ (j : ℕ). ok (f j)) (shift from i)
+      at-rowsFrom f (suc from) k i (le-of-suc-le-suc h) ∙ ap (λ (j : ℕ). ok (f j)) (count-on from i)
 
   length-rowsFrom : (f : ℕ → A) (from k : ℕ) → length (map f (range from k)) ≡ k
   unfolding range
@@ -49,7 +46,7 @@ module _ {A : Type 0} where
       ap₂ {C = List A} _∷_ (sym e ∙ ap f′ (add-zero from)) (same-rowsFrom f f′ (suc from) k (λ j h. n j (λ q. omega arith)))
   set-rowsFrom f f′ v from (suc k) (suc i) e n =
       ap₂ {C = List A} _∷_ (n from (λ q. omega arith))
-      (set-rowsFrom f f′ v (suc from) k i (ap f′ (shift from i) ∙ e) (λ j m. n j (λ q. m (q ∙ sym (shift from i)))))
+      (set-rowsFrom f f′ v (suc from) k i (ap f′ (count-on from i) ∙ e) (λ j m. n j (λ q. m (q ∙ sym (count-on from i)))))
 
   pub length-rows : (f : ℕ → A) (k : ℕ) → length (rows f k) ≡ k
   length-rows f k = length-rowsFrom f 0 k
@@ -82,9 +79,6 @@ before : (width a b : ℕ) → a < b → a * width + width ≤ b * width
 before width a b h = omega (arith, mul-le-mul-right width h)
 
 module _ {A : Type 0} (width : ℕ) where
-  pub length-places : (pool : List A) (g : ℕ) → g * width + width ≤ length pool → length (places width pool g) ≡ width
-  length-places pool g h = simp (length-take, length-drop) (omega arith)
-
   pub rowOf-length : (counts : List ℕ) (pool : List A) (g : ℕ) → g * width + width ≤ length pool → length (rowOf width counts pool g) ≡ min (getD counts g 0) width
   rowOf-length counts pool g h = simp (length-take, length-drop) (omega arith)
 
@@ -99,12 +93,7 @@ module _ {A : Type 0} (width : ℕ) where
   at-rowOf counts pool g k d h l =
       at-in (rowOf width counts pool g) k d (rw (rowOf-length counts pool g h) l) ∙ ap ok (rowOf-at counts pool g k d l)
 
-  -- ---- stores
-
-  -- a store in row g's places changes that row's places and no others
-  pub places-same : (pool : List A) (g k : ℕ) (v : A) → places width (set pool (g * width + k) v) g ≡ set (places width pool g) k v
-  places-same pool g k v = rw (drop-set-add (g * width) pool k v, take-set width (drop (g * width) pool) k v)
-
+  -- a store in row g's places leaves the places of the others
   pub places-other : (pool : List A) (g k : ℕ) (v : A) (j : ℕ) → j ≢ g → k < width → places width (set pool (g * width + k) v) j ≡ places width pool j
   places-other pool g k v j n l = go (ltb j g) (ltb→lt j g) (nltb→le j g)
     where
@@ -122,34 +111,6 @@ module _ {A : Type 0} (width : ℕ) where
       go : (t : Bool) → (T t → j < g) → (T (not t) → g ≤ j) → places width (set pool (g * width + k) v) j ≡ places width pool j
       go true f h = past (f tt)
       go false f h = ahead (⊎-elim (λ e. absurd (n (sym e))) (λ q. q) (eq-or-lt-of-le (h tt)))
-
-  -- a store to the pool changes one row, and so does a store to a count. The two make a push, a clear and a copy.
-  pub rows-pool : (n : ℕ) (counts : List ℕ) (pool : List A) (g k : ℕ) (v : A) → k < width
-      → rows (rowOf width counts (set pool (g * width + k) v)) n ≡ set (rows (rowOf width counts pool) n) g (take (getD counts g 0) (set (places width pool g) k v))
-  rows-pool n counts pool g k v l = sym (set-rows (rowOf width counts pool) (rowOf width counts (set pool (g * width + k) v)) (take (getD counts g 0) (set (places width pool g) k v)) n g
-      (ap (take (getD counts g 0)) (places-same pool g k v))
-      (λ j d. ap (take (getD counts j 0)) (sym (places-other pool g k v j d l))))
-
-  pub rows-count : (n : ℕ) (counts : List ℕ) (pool : List A) (g m : ℕ) → g < length counts
-      → rows (rowOf width (set counts g m) pool) n ≡ set (rows (rowOf width counts pool) n) g (take m (places width pool g))
-  rows-count n counts pool g m l = sym (set-rows (rowOf width counts pool) (rowOf width (set counts g m) pool) (take m (places width pool g)) n g
-      (ap (λ (c : ℕ). take c (places width pool g)) (getD-set-same counts g m 0 l))
-      (λ j d. ap (λ (c : ℕ). take c (places width pool j)) (sym (getD-set-other counts g j m 0 d))))
-
-  -- a push to row g
-  pub rows-push : (n : ℕ) (counts : List ℕ) (pool : List A) (g m : ℕ) (v : A) → g < length counts → m ≡ getD counts g 0 → m < width → g * width + width ≤ length pool
-      → rows (rowOf width (set counts g (m + 1)) (set pool (g * width + m) v)) n ≡ set (rows (rowOf width counts pool) n) g (rowOf width counts pool g ++ (v ∷ []))
-  rows-push n counts pool g m v l e b h =
-      let k : m < length (places width pool g) = rw (length-places pool g h) b in
-      rw (
-        rows-count n counts (set pool (g * width + m) v) g (m + 1) l,
-        rows-pool n counts pool g m v b,
-        set-set,
-        places-same pool g m v,
-        add-one,
-        take-suc-set (places width pool g) m v k,
-        e,
-      )
 
   -- ---- a row rewritten whole: the pool is a, the row's entries in use, and what is after them
 

@@ -1,15 +1,15 @@
--- Laws of runs: what comes after, loops one pass at a time, and a value that carries its own fault.
+-- Laws of runs: what comes after, and loops one pass at a time.
 -- A loop's laws are in the form of an invariant: what is left of the loop, from here, is the whole.
 use mathlib.Core.Path.{_≡_, refl, sym, ap, _∙_}
 use mathlib.Core.Bool.{Bool, true, false}
-use mathlib.Core.List.{List, [], _∷_}
+use mathlib.Core.List.{List}
 use Prim.Native.Nat.{ℕ, zero, suc, _+_, _-_, _≤_, _<_}
 use native.Mathlib.Nat.{not-suc-le-zero}
 use native.Mathlib.Numerals.{add-one, sub-one}
 use native.Mathlib.Omega.{arith}
 use lib.ListN.{length, getD, drop, drop-of-length-le}
 use lib.Seq.{drop-cons}
-use Rattle.laws.specs.Run.{Run, ok, fault, andThen, if_then_else_, forEach, forRange, while}
+use Rattle.laws.specs.Run.{Run, ok, fault, andThen, forEach, forRange, while}
 
 -- ---- ok and fault
 
@@ -68,11 +68,6 @@ module _ {S : Type 0} (test : S → Run Bool) (body : S → Run S) where
   while-pass zero s t m>0 h e = absurd (not-suc-le-zero m>0)
   while-pass (suc m) s t m>0 h e = rw (h, e, sub-one)
 
-  -- a pass, after which what the body gave may have faulted
-  pub while-next : {whole : Run S} (m : ℕ) (s : S) (r : Run S) → 0 < m → test s ≡ ok true → r ≡ body s → while test body m s ≡ whole → andThen r (while test body (m - 1)) ≡ whole
-  while-next zero s r l h e w = absurd (not-suc-le-zero l)
-  while-next (suc m) s r l h e w = rw (e, sub-one) (rw h at w)
-
 -- ---- for i in from .. from + count, after a run that may have faulted
 
 module _ {S : Type 0} (f : ℕ → S → Run S) where
@@ -98,27 +93,3 @@ module _ {A S : Type 0} (f : A → S → Run S) where
   pub forEach-end : {whole : Run S} (xs : List A) (i : ℕ) (r : Run S) → length xs ≤ i → andThen r (forEach f (drop i xs)) ≡ whole → r ≡ whole
   forEach-end xs i (ok s) h w = rw (drop-of-length-le xs h) at w
   forEach-end xs i fault h w = w
-
--- ---- a value that carries its own fault: what is bad stays bad
-
-module _ {A B : Type 0} (bad : Bool) (a : A) (k : A → Run B) where
-  pub sticky : (b : B) → k a ≡ ok b → (if bad then fault else ok b) ≡ andThen (if bad then fault else ok a) k
-  sticky b h = go bad
-    where
-      go : (bad : Bool) → (if bad then fault else ok b) ≡ andThen (if bad then fault else ok a) k
-      go true = refl
-      go false = sym h
-
-  pub sticky-fault : k a ≡ fault → fault ≡ andThen (if bad then fault else ok a) k
-  sticky-fault h = go bad
-    where
-      go : (bad : Bool) → fault ≡ andThen (if bad then fault else ok a) k
-      go true = refl
-      go false = sym h
-
-  pub sticky-same : (k′ : A → Run B) → k a ≡ k′ a → andThen (if bad then fault else ok a) k ≡ andThen (if bad then fault else ok a) k′
-  sticky-same k′ h = go bad
-    where
-      go : (bad : Bool) → andThen (if bad then fault else ok a) k ≡ andThen (if bad then fault else ok a) k′
-      go true = refl
-      go false = h

@@ -201,12 +201,6 @@ times-range x s (suc c) l h = ⊎-elim
     past e (inl z) = z
     past e (inr k) = let no-way : ⊥ = omega (arith, range-times x (suc s) c k) in absurd no-way
 
-pub getD-range : (s c i d : ℕ) → i < c → getD (range s c) i d ≡ s + i
-unfolding range
-getD-range s zero i d h = let no-way : ⊥ = omega arith in absurd no-way
-getD-range s (suc c) zero d h = omega arith
-getD-range s (suc c) (suc i) d h = omega (arith, getD-range (suc s) c i d (omega arith))
-
 pub range-first : (s c : ℕ) → 1 ≤ c → (l : List ℕ) × (range s c ≡ s ∷ l)
 unfolding range
 range-first s zero h = let no-way : ⊥ = omega arith in absurd no-way

@@ -7,11 +7,12 @@ use native.Mathlib.Numerals.{add-one}
 use native.Mathlib.Omega.{arith}
 use borrow.Author.Tests.{lt-ltb, le-ltb}
 use lib.ListN.{length, getD, set, take, replicate, length-take, length-replicate, drop, drop-of-length-le}
-use lib.Seq.{getD-take, take-suc, take-suc-set, take-at, take-all, take-append-add}
+use lib.Seq.{take-suc, take-suc-set, take-all, take-append-add}
 use Rattle.laws.specs.Run.{Run, ok, fault, at, put, push, andThen}
 use mathlib.Core.Bool.{Bool, true, false, not}
 use lib.Dec.{T, ltb, ltb→lt, nltb→le}
 use Rattle.laws.proofs.Runs.{not-ok}
+use Rattle.laws.proofs.Kept.{kept-ok, kept-at}
 
 module _ {A : Type 0} where
   -- ---- a whole list
@@ -27,6 +28,13 @@ module _ {A : Type 0} where
   at-out [] i h = refl
   at-out (x ∷ xs) zero h = absurd (not-suc-le-zero h)
   at-out (x ∷ xs) (suc i) h = at-out xs i (le-of-suc-le-suc h)
+
+  -- a read that gives was in range, and what it gave is the entry there
+  pub at-found : (xs : List A) (i : ℕ) {x : A} → at xs i ≡ ok x → i < length xs
+  at-found xs i {x} e = kept-ok (at xs i) x (kept-at xs i x) e .0
+
+  pub at-value : (xs : List A) (i : ℕ) (d : A) {x : A} → at xs i ≡ ok x → x ≡ getD xs i d
+  at-value xs i d {x} e = kept-ok (at xs i) x (kept-at xs i d) e .1
 
   pub put-in : (xs : List A) (i : ℕ) (v : A) → i < length xs → put xs i v ≡ ok (set xs i v)
   unfolding put
@@ -54,18 +62,6 @@ module _ {A : Type 0} where
 
   -- ---- a window
 
-  window-length : (k : ℕ) (xs : List A) (i : ℕ) → i < k → i < length xs → i < length (take k xs)
-  window-length k xs i h l = rw (length-take k xs) (omega arith)
-
-  window-end : (k : ℕ) (xs : List A) (i : ℕ) → k ≤ i → length (take k xs) ≤ i
-  window-end k xs i h = rw (length-take k xs) (omega arith)
-
-  pub at-window : (xs : List A) (k i : ℕ) (d : A) → i < k → i < length xs → at (take k xs) i ≡ ok (getD xs i d)
-  at-window xs k i d h l = at-in (take k xs) i d (window-length k xs i h l) ∙ ap ok (getD-take k xs i d h)
-
-  pub at-window-out : (xs : List A) (k i : ℕ) → k ≤ i → at (take k xs) i ≡ fault
-  at-window-out xs k i h = at-out (take k xs) i (window-end k xs i h)
-
   -- a store and a cut change places, wherever the store is
   pub take-set : (k : ℕ) (xs : List A) (i : ℕ) (v : A) → take k (set xs i v) ≡ set (take k xs) i v
   take-set zero xs i v = refl
@@ -73,21 +69,15 @@ module _ {A : Type 0} where
   take-set (suc k) (x ∷ xs) zero v = refl
   take-set (suc k) (x ∷ xs) (suc i) v = ap {B = List A} (λ r. x ∷ r) (take-set k xs i v)
 
-  pub put-window : (xs : List A) (k i : ℕ) (v : A) → i < k → i < length xs → put (take k xs) i v ≡ ok (take k (set xs i v))
-  put-window xs k i v h l = put-in (take k xs) i v (window-length k xs i h l) ∙ ap ok (sym (take-set k xs i v))
-
-  pub put-window-out : (xs : List A) (k i : ℕ) (v : A) → k ≤ i → put (take k xs) i v ≡ fault
-  put-window-out xs k i v h = put-out (take k xs) i v (window-end k xs i h)
-
-  -- the first k after a fill of k
-  pub take-fill : (k : ℕ) (v : A) (xs : List A) → take k (replicate k v ++ xs) ≡ replicate k v
-  take-fill k v xs = take-at (replicate k v) xs k (length-replicate k v)
-
   -- a part of a list that holds one entry throughout
   pub take-replicate : (k n : ℕ) (v : A) → k ≤ n → take k (replicate n v) ≡ replicate k v
   take-replicate zero n v h = refl
   take-replicate (suc k) zero v h = absurd (not-suc-le-zero h)
   take-replicate (suc k) (suc n) v h = ap {B = List A} (λ r. v ∷ r) (take-replicate k n v (le-of-suc-le-suc h))
+
+  -- and how long it is
+  pub part-length : {xs : List A} (n : ℕ) (v : A) (k : ℕ) → xs ≡ replicate n v → k ≤ n → k ≡ length (take k xs)
+  part-length n v k e h = rw (e, take-replicate k n v h, length-replicate k v)
 
   pub drop-replicate : (k n : ℕ) (v : A) → drop k (replicate (k + n) v) ≡ replicate n v
   drop-replicate zero n v = rw zero-add
@@ -137,3 +127,15 @@ module _ {A : Type 0} where
 
   pub write-all : (d new : List A) (i : ℕ) → length d ≤ i → length new ≤ i → take i new ++ drop i d ≡ new
   write-all d new i h l = rw (drop-of-length-le d {i = i} h, take-all i new l) (append-nil new)
+
+  -- where every entry becomes v it is `replicate i v ++ drop i d`, and at the end v throughout
+  pub fill-suc : (d : List A) (v : A) (i : ℕ) → i < length d → set (replicate i v ++ drop i d) i v ≡ replicate (suc i) v ++ drop (suc i) d
+  fill-suc [] v i h = absurd (not-suc-le-zero h)
+  fill-suc (x ∷ d) v zero h = refl
+  fill-suc (x ∷ d) v (suc i) h = ap {B = List A} (λ r. v ∷ r) (fill-suc d v i (le-of-suc-le-suc h))
+
+  pub fill-more : (d : List A) (v : A) (i : ℕ) → i < length d → set (replicate i v ++ drop i d) i v ≡ replicate (i + 1) v ++ drop (i + 1) d
+  fill-more d v i h = rw add-one (fill-suc d v i h)
+
+  pub fill-all : (d : List A) (v : A) (i : ℕ) → i ≡ length d → replicate i v ++ drop i d ≡ replicate (length d) v
+  fill-all d v i e = let h : length d ≤ i = omega arith in rw (drop-of-length-le d {i = i} h, e) (append-nil (replicate (length d) v))

@@ -1,12 +1,11 @@
 -- Each test of `specs/Tests.antt` decides its condition; the verdict says what holds, and no other verdict does (`verdict-exact`); and a
 -- verdict of YES on a well-formed graph makes the mates' matching optimal (`yes-optimal`).
-use mathlib.Core.Path.{_≡_, refl, sym, ap, subst, _∙_}
+use mathlib.Core.Path.{_≡_, refl, ap, subst}
 use mathlib.Core.Bool.{Bool, true, false, not}
 use mathlib.Core.Logic.{_⊎_, inl, inr, ⊎-elim, _↔_}
 use mathlib.Core.List.{List, [], _∷_}
 use Prim.Native.Nat.{ℕ, zero, suc, _+_, _*_, _-_, _/_, _%_, _<_, _≤_, zero-le}
 use native.Mathlib.Omega.{arith}
-use lib.Dec.{T}
 use lib.IntN.{ℤ, pos, natAbs, _+ℤ_}
 use lib.Signed.{_<ℤ_}
 use Rattle.laws.specs.Lists.{Each}

@@ -20,7 +20,7 @@ use Rattle.laws.specs.Run.{if_then_else_}
 use Rattle.laws.proofs.Integers.{up, down, parts, pos-parts, neg-parts, add-parts, sub-of-parts, double-parts, nonneg-parts, greater-ge, least-le}
 use Rattle.laws.specs.Lists.{Each, sum, bit}
 use Rattle.laws.proofs.Lists.{each, each-at, each-map, each-range, sum-le, sum-same, sum-zero, sum-times, sum-swap, total-parts}
-use Rattle.matching.specs.Graph.{Graph, edgeCount, firstOf, secondOf, weightOf, nodesOf, groupsOf, missing, WellFormed}
+use Rattle.matching.specs.Graph.{Graph, edgeCount, firstOf, secondOf, weightOf, groupsOf, missing, WellFormed}
 use Rattle.matching.specs.Matching.{Matching, weight, Optimal}
 use Rattle.matching.proofs.Packing.{ends, packed, covered, Reached}
 use Rattle.matching.specs.Certificate.{Certificate, mateOf, dualOf, pairs, contains, inside, size, within, slack, groupDuals, fullSlack, offset, DUAL, EDGE, TIGHT, FREE, FULL, MATE, Passes}

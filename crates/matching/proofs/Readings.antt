@@ -1,7 +1,7 @@
 -- That the definitions mean what their comments say: a matching has no edge twice; a group contains a node exactly if climbing from it
 -- comes to the group in at most n moves; under MATE the edge that a mate names is matched; the pairs are the matched edges; the `least` of a list is one
 -- of it. Nothing else rests on this file.
-use mathlib.Core.Path.{_≡_, refl, sym, ap, _∙_}
+use mathlib.Core.Path.{_≡_, refl, sym, ap}
 use mathlib.Core.Bool.{Bool, true, false, cond}
 use mathlib.Core.Logic.{_≢_, _⊎_, inl, inr, ⊎-elim}
 use mathlib.Core.List.{List, [], _∷_, map}

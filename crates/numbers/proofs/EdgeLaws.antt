@@ -1,15 +1,15 @@
--- Laws of the ends and weights of a list of edges: how many there are, and what a read of one says of the graph.
+-- Laws of the ends and weights of a list of edges: how many there are, the two ends of an edge, and what a read of one says of the graph.
 use mathlib.Core.Path.{_≡_, refl, ap}
 use mathlib.Core.Bool.{Bool, true, false, not}
 use mathlib.Core.List.{List, [], _∷_}
-use Prim.Native.Nat.{ℕ, zero, suc, _*_, _/_, _%_, _<_, _≤_}
+use Prim.Native.Nat.{ℕ, zero, suc, _+_, _*_, _/_, _%_, _<_, _≤_}
 use native.Mathlib.Omega.{arith}
 use borrow.Author.Tests.{lt-ltb, le-ltb}
 use lib.Dec.{T, ltb, ltb→lt, nltb→le}
 use lib.IntN.{pos}
 use lib.ListN.{length, getD}
 use Rattle.laws.specs.Run.{ok, andThen, must, at}
-use Rattle.matching.specs.Graph.{Edge, graphOf, firstOf, secondOf, weightOf, nodeAt}
+use Rattle.matching.specs.Graph.{Edge, graphOf, firstOf, secondOf, weightOf, nodeAt, beside}
 use Rattle.numbers.specs.Edges.{endsOf, weightsOf}
 
 pub length-endsOf : (edges : List Edge) → length (endsOf edges) ≡ 2 * length edges
@@ -21,6 +21,17 @@ pub length-weightsOf : (edges : List Edge) → length (weightsOf edges) ≡ leng
 unfolding weightsOf
 length-weightsOf [] = refl
 length-weightsOf (x ∷ xs) = ap suc (length-weightsOf xs)
+
+-- the ends of the edge that is one further on
+pub first-next : (e : ℕ) → 2 * suc e ≡ suc (suc (2 * e))
+first-next e = omega arith
+
+pub second-next : (e : ℕ) → 2 * suc e + 1 ≡ suc (suc (2 * e + 1))
+second-next e = omega arith
+
+-- both ends of an edge are there
+pub beside-in : (p m : ℕ) → p < 2 * m → beside p < 2 * m
+beside-in p m h = omega arith
 
 half-next : (p : ℕ) → (suc (suc p)) / 2 ≡ suc (p / 2)
 half-next p = omega arith

@@ -14,7 +14,7 @@ use Rattle.numbers.specs.declared.Got.the-variants as number
 pub entry-in : (l : List ℕ) (i : ℕ) → i < length l → at l i ≡ ok (getD l i 0)
 entry-in l i h = at-in l i 0 h
 
-no-answer : {B : Type 0} → true ≡ false → B
+pub no-answer : {B : Type 0} → true ≡ false → B
 no-answer e = absurd (subst T e tt)
 
 -- an answer that is known

@@ -1,4 +1,4 @@
--- Laws of the rows of a pool as the definition sees them: a read of a row, and what a store to a count or to the pool does.
+-- Laws of the rows of a pool as the definition sees them: a read of a row, what a store to a count does, and a row rewritten whole.
 use mathlib.Core.Path.{_≡_, refl, sym, ap, _∙_}
 use mathlib.Core.Bool.{Bool, true, false, not}
 use mathlib.Core.Logic.{_≢_}
@@ -7,12 +7,12 @@ use Prim.Native.Nat.{ℕ, min, _+_, _*_, _-_, _<_, _≤_}
 use native.Mathlib.Nat.{mul-le-mul-right}
 use native.Mathlib.Omega.{arith}
 use borrow.Author.Tests.{lt-ltb, le-ltb}
-use lib.Dec.{T, ltb, ltb→lt, nltb→le}
+use lib.Dec.{T, ltb, nltb→le}
 use lib.ListN.{length, getD, set, take, replicate, drop}
 use lib.Seq.{getD-set-same, getD-set-other}
-use Rattle.laws.specs.Rows.{rows, rowOf, places}
+use Rattle.laws.specs.Rows.{rowOf, places}
 use Rattle.laws.specs.Run.{Run, ok, fault, if_then_else_, at, andThen, forEach}
-use Rattle.laws.proofs.Rows.{at-rows, at-rows-out, set-rows, places-same, places-other, row-whole, other-row, constant-rows, rowOf-length, rowOf-at}
+use Rattle.laws.proofs.Rows.{at-rows, at-rows-out, set-rows, row-whole, other-row, constant-rows, rowOf-length, rowOf-at}
 use Rattle.numbers.specs.Pools.{rowIn, pooled, PoolFits}
 use Rattle.laws.proofs.Runs.{forEach-next, forEach-end}
 
@@ -22,6 +22,10 @@ place-in n g k h l = omega (arith, mul-le-mul-right n h)
 
 pub place-row : (n g : ℕ) → g < n → g * n + n ≤ n * n
 place-row n g h = omega (arith, mul-le-mul-right n h)
+
+-- a pool for n nodes has its place in an array of 4096
+pub pool-room : (n : ℕ) → n ≤ 64 → n * n ≤ 4096
+pool-room n h = omega (arith, mul-le-mul-right n h)
 
 module _ (n : ℕ) (counts pool : List ℕ) where
   -- the row of a node, of a group, of no number
@@ -52,12 +56,6 @@ module _ (n : ℕ) (counts pool : List ℕ) where
   pooled-count b m h l = one-row (set counts (b - n) m) pool b (take m (places n pool (b - n))) h
       (ap (λ (c : ℕ). take c (places n pool (b - n))) (getD-set-same counts (b - n) m 0 l))
       (λ g d. ap (λ (c : ℕ). take c (places n pool g)) (sym (getD-set-other counts (b - n) g m 0 d)))
-
-  -- a store to place k of the row of group b
-  pub pooled-entry : (b k v : ℕ) → n ≤ b → k < n → pooled n counts (set pool ((b - n) * n + k) v) ≡ set (pooled n counts pool) b (take (getD counts (b - n) 0) (set (places n pool (b - n)) k v))
-  pooled-entry b k v h l = one-row counts (set pool ((b - n) * n + k) v) b (take (getD counts (b - n) 0) (set (places n pool (b - n)) k v)) h
-      (ap (take (getD counts (b - n) 0)) (places-same n pool (b - n) k v))
-      (λ g d. ap (take (getD counts g 0)) (sym (places-other n pool (b - n) k v g d l)))
 
   -- where all counts are 0 all rows are empty
   pub pooled-empty : ((g : ℕ) → getD counts g 0 ≡ 0) → pooled n counts pool ≡ replicate (2 * n) []

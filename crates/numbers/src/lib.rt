@@ -1,12 +1,13 @@
 // Node, edge, end and group numbers are counted apart: a tuple struct each. One becomes another, or a plain number, only by a
 // function named here. Lists store plain numbers; a read of one answers a number of the kind that the list holds, or Out.
 ghost use mathlib.Core.Path.{_≡_};
-ghost use Prim.Native.Nat.{ℕ, _+_, _*_, _/_, _<_, _≤_};
-ghost use lib.ListN.{length, take};
+ghost use Prim.Native.Nat.{_+_, _*_, _/_, _<_, _≤_};
+ghost use lib.ListN.{length, take, replicate};
 ghost use Rattle.laws.specs.Run.{at, put, push as pushOf};
 ghost use Rattle.matching.specs.Graph.{beside as besideOf, missing, isMissing};
 ghost use Rattle.numbers.specs.View.{gotOf, gotNode, gotEdge, gotEnd, gotGroup, counted, Agrees};
 
+pub mod amounts;
 pub mod pools;
 
 pub const MISSING: u16 = 65535;
@@ -244,5 +245,14 @@ pub fn copy(from: &[u16], to: &mut [u16])
     while i < from.len() {
         to[i] = from[i];
         i += 1;
+    }
+}
+
+// Every entry becomes x.
+pub fn fill(list: &mut [u16], x: u16)
+    ensures { λ r. ⌜ now (list .exit) ≡ replicate (length (now (list .entry))) x ⌝ }
+{
+    for k in 0..list.len() {
+        list[k] = x;
     }
 }

@@ -9,7 +9,7 @@ use lib.ListN.{length}
 use Rattle.laws.specs.Lists.{Each}
 use Rattle.laws.specs.Run.{must, at, Popped}
 use Rattle.laws.proofs.Times.{each-append, each-reverse}
-use Rattle.laws.proofs.Sure.{Kept, kept, kept-bind, kept-map, kept-onlyIf, kept-while}
+use Rattle.laws.proofs.Kept.{Kept, kept, kept-bind, kept-map, kept-onlyIf, kept-while}
 use Rattle.laws.proofs.Keeping.{skip, load, store, kept-pop}
 use Rattle.matching.specs.Graph.{Graph, missing}
 use Rattle.matching.specs.Certificate.{MateHolds}

@@ -10,7 +10,7 @@ use lib.Dec.{eqb}
 use lib.ListN.{length, getD}
 use Rattle.laws.specs.Run.{Run, must, at, put, position}
 use Rattle.laws.proofs.Times.{times-at}
-use Rattle.laws.proofs.Sure.{Kept, kept, kept-bind, kept-at}
+use Rattle.laws.proofs.Kept.{Kept, kept, kept-bind, kept-at}
 use Rattle.laws.proofs.Keeping.{skip, load, holding, kept-known, Agree, agree, both-torn, agree-of, agree-bind, agree-skip, agree-either, agree-onlyIf, agree-while}
 use Rattle.matching.specs.Graph.{Graph, missing, isMissing, isGroup, isOdd, beside}
 use Rattle.matching.specs.Certificate.{MateHolds}

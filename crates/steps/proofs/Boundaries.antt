@@ -1,8 +1,8 @@
 -- Both sides of every limit, computed: what is taken, and the number and place of what is refused.
 use mathlib.Core.Path.{_≡_, refl}
 use mathlib.Core.List.{List, [], _∷_, _++_}
-use Prim.Native.Nat.{ℕ, _*_}
-use lib.IntN.{ℤ, pos, negsuc}
+use Prim.Native.Nat.{ℕ}
+use lib.IntN.{pos, negsuc}
 use lib.ListN.{replicate}
 use Rattle.matching.specs.Graph.{Edge, edge}
 use Rattle.steps.specs.Refusals.{refusalNumber, refusalPlace, Intake, fine, refused, Room, edgeIntake, edgesIntake, tooShort, intake}

@@ -1,5 +1,5 @@
 -- The results of a table's calls, computed: the `unfolding` line names every routine of the definition once, for all tables.
-use mathlib.Core.Path.{_≡_, refl}
+use mathlib.Core.Path.{_≡_}
 use mathlib.Core.List.{List}
 use Rattle.laws.specs.Lists.{range, keep, all, member, repeats, sum, total}
 use Rattle.laws.specs.Integers.{lesser, greater, leastFrom, least}

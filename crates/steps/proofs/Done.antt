@@ -1,8 +1,8 @@
 -- THE THEOREM: a plan that answers DONE is optimal. For every n, edge list, flag and budget, and lent lists of any length: where the
 -- plan call answers DONE, the edges that its mates name are a matching, and no matching weighs more; with the flag, no matching of at
 -- least as many edges does. `Optimal`, in `matching`, says just that. Nothing else is assumed.
-use mathlib.Core.Path.{_≡_, refl, sym, ap, subst}
-use mathlib.Core.Bool.{Bool, _&&_}
+use mathlib.Core.Path.{_≡_, refl, sym, subst}
+use mathlib.Core.Bool.{Bool}
 use mathlib.Core.List.{List, [], _∷_, _++_}
 use Prim.Native.Nat.{ℕ, _-_, _≤_}
 use native.Mathlib.Omega.{arith}

@@ -8,7 +8,7 @@ use lib.IntN.{ℤ, pos, natAbs, _+ℤ_, _-ℤ_}
 use lib.Signed.{ltZ}
 use lib.ListN.{length}
 use Rattle.laws.specs.Run.{must, forEach, at, put, push, position}
-use Rattle.laws.proofs.Sure.{Kept, kept, kept-bind, kept-onlyIf, kept-forEach, kept-forRange, kept-while}
+use Rattle.laws.proofs.Kept.{Kept, kept, kept-bind, kept-onlyIf, kept-forEach, kept-forRange, kept-while}
 use Rattle.laws.proofs.Keeping.{skip, either-way}
 use Rattle.matching.specs.Graph.{Graph, missing, isMissing, isOdd, beside}
 use Rattle.matching.specs.Certificate.{maxDual}

@@ -12,7 +12,7 @@ use Rattle.laws.specs.Integers.{isZero}
 use Rattle.laws.specs.Times.{times}
 use Rattle.laws.specs.Run.{Run, at}
 use Rattle.laws.proofs.Times.{same-or-not, less-or-not, times-here}
-use Rattle.laws.proofs.Sure.{Kept, kept, kept-bind, kept-map}
+use Rattle.laws.proofs.Kept.{Kept, kept, kept-bind, kept-map}
 use Rattle.laws.proofs.Keeping.{skip, store, stored, either-way}
 use Rattle.matching.specs.Graph.{Graph, missing}
 use Rattle.matching.specs.Certificate.{parentOf}

@@ -7,8 +7,8 @@ use native.Mathlib.Omega.{arith}
 use lib.ListN.{getD, replicate, length-append, length-replicate, List·getD-eq-default}
 use Rattle.laws.specs.Lists.{range}
 use Rattle.laws.specs.Times.{times}
-use Rattle.laws.proofs.Lists.{length-range, getD-padded}
-use Rattle.laws.proofs.Times.{times-nil, times-range, range-times, getD-range, range-first}
+use Rattle.laws.proofs.Lists.{length-range, getD-range, getD-padded}
+use Rattle.laws.proofs.Times.{times-nil, times-range, range-times, range-first}
 use Rattle.matching.specs.Graph.{Graph, missing}
 use Rattle.matching.specs.Certificate.{mateOf, parentOf, climb}
 use Rattle.steps.specs.State.{Forest, start}

@@ -13,7 +13,7 @@ use Rattle.laws.specs.Lists.{Each}
 use Rattle.laws.specs.Times.{times}
 use Rattle.laws.specs.Run.{_>>=_, forEach}
 use Rattle.laws.proofs.Times.{same-or-not, none-or-some, bit-same, bit-other, times-nil, times-cons, times-later, times-snoc, times-once, times-each}
-use Rattle.laws.proofs.Sure.{Kept, kept, kept-bind, kept-map}
+use Rattle.laws.proofs.Kept.{Kept, kept, kept-bind, kept-map}
 use Rattle.laws.proofs.Keeping.{store, stored, holding}
 use Rattle.matching.specs.Graph.{Graph, missing}
 use Rattle.matching.specs.Certificate.{parentOf}

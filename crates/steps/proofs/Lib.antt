@@ -1,3 +1,4 @@
+-- What is proved of the definition: the tables, demand 3, and that DONE means optimal.
 pub mod Computed
 pub mod Table
 pub mod Worked

@@ -12,7 +12,7 @@ use Rattle.laws.specs.Lists.{Each}
 use Rattle.laws.specs.Times.{times}
 use Rattle.laws.specs.Run.{Run, forEach, at, push}
 use Rattle.laws.proofs.Times.{same-or-not, bit-same, times-nil, times-later, times-snoc, each-times}
-use Rattle.laws.proofs.Sure.{Kept, kept, torn, kept-bind, kept-map}
+use Rattle.laws.proofs.Kept.{Kept, kept, torn, kept-bind, kept-map}
 use Rattle.laws.proofs.Keeping.{skip, load, either-way, kept-push, kept-each, kept-all, kept-both}
 use Rattle.matching.specs.Graph.{Graph, missing}
 use Rattle.matching.specs.Certificate.{climb}

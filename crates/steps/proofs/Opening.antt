@@ -11,7 +11,7 @@ use lib.Seq.{getD-set-same, getD-set-other}
 use Rattle.laws.specs.Times.{times}
 use Rattle.laws.specs.Run.{Run, forEach, at}
 use Rattle.laws.proofs.Times.{same-or-not, bit-same, bit-other, times-nil, times-cons, times-here, times-later, times-snoc}
-use Rattle.laws.proofs.Sure.{Kept, kept, torn, kept-bind, kept-onlyIf}
+use Rattle.laws.proofs.Kept.{Kept, kept, torn, kept-bind, kept-onlyIf}
 use Rattle.laws.proofs.Keeping.{skip, load, stored, kept-push}
 use Rattle.matching.specs.Graph.{Graph, missing}
 use Rattle.matching.specs.Certificate.{parentOf}

@@ -13,7 +13,7 @@ use Prim.Native.Nat.{ℕ, zero, suc, _*_, _-_, _/_, _≤_}
 use native.Mathlib.Omega.{arith}
 use lib.Dec.{T, leb, ltb, leb→le, le→leb, ltb→lt, lt→ltb}
 use Rattle.laws.specs.Run.{Run, ok, fault, if_then_else_}
-use Rattle.laws.proofs.Sure.{kept-ok}
+use Rattle.laws.proofs.Kept.{kept-ok}
 use Rattle.laws.proofs.Keeping.{Agree, agree, both-torn, agree-kept, agree-same}
 use Rattle.matching.specs.Graph.{Edge, Graph, graphOf, missing, isGroup}
 use Rattle.steps.specs.State.{State, start}

@@ -13,7 +13,7 @@ use lib.Signed.{leZ}
 use lib.ListN.{take}
 use Rattle.laws.specs.Integers.{isZero, half, isEven}
 use Rattle.laws.specs.Run.{ok, if_then_else_, must, at, pop}
-use Rattle.laws.proofs.Sure.{Kept, kept, torn, kept-bind, kept-map, kept-onlyIf, kept-forRange}
+use Rattle.laws.proofs.Kept.{Kept, kept, torn, kept-bind, kept-map, kept-onlyIf, kept-forRange}
 use Rattle.laws.proofs.Keeping.{skip, load, either-way, Agree, agree, agree-of, agree-bind, agree-skip, agree-either, agree-onlyIf}
 use Rattle.matching.specs.Graph.{Graph, missing, isMissing, beside}
 use Rattle.matching.specs.Certificate.{parentOf, MateHolds}

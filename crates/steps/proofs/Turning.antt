@@ -10,7 +10,7 @@ use lib.Seq.{getD-set-same, getD-set-other}
 use Rattle.laws.specs.Times.{times}
 use Rattle.laws.specs.Run.{at}
 use Rattle.laws.proofs.Times.{same-or-not, less-or-not, times-here, times-turned, length-turned}
-use Rattle.laws.proofs.Sure.{Kept, kept}
+use Rattle.laws.proofs.Kept.{Kept, kept}
 use Rattle.laws.proofs.Keeping.{skip, load, stored, holding}
 use Rattle.matching.specs.Graph.{missing}
 use Rattle.steps.specs.State.{Forest, State}

@@ -1,7 +1,7 @@
 -- `augment_blossom` and `augment_matching`: matched and unmatched edges change places along a path.
 -- Definitions only.
 use mathlib.Core.Bool.{Bool, true, false, not}
-use mathlib.Core.List.{List, [], _∷_}
+use mathlib.Core.List.{List}
 use Prim.Native.Nat.{ℕ, zero, suc, _+_, _*_}
 use lib.Dec.{eqb}
 use lib.ListN.{length}

@@ -1,7 +1,6 @@
 -- `assign_label`: a node and its outermost group get label 1 or 2; label 2 passes label 1 to the base's mate.
 -- Definitions only.
 use mathlib.Core.Bool.{_&&_}
-use mathlib.Core.List.{List}
 use Prim.Native.Nat.{ℕ, _*_}
 use lib.Dec.{eqb}
 use Rattle.laws.specs.Run.{Run, ok, _>>=_, must, at, push}

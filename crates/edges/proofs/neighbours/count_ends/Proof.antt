@@ -5,12 +5,11 @@ use denote.Ref.{now}
 use lib.ListN.{length, drop, getD, length-set, length-drop, length-replicate}
 use Rattle.edges.specs.Neighbours.{Counted}
 use Rattle.edges.proofs.Counts.{counted-none, count-back, count-skip, times-le}
-use mathlib.Core.Path.{_≡_, refl, sym, ap, _∙_}
+use mathlib.Core.Path.{_≡_, ap}
 use Rattle.edges.proofs.neighbours.count_ends.Statement.{statement}
 use Rattle.edges.proofs.neighbours.count_ends.Tie as tie
 use Rattle.edges.proofs.neighbours.count_ends.Reads as reads
 use Rattle.edges.proofs.neighbours.count_ends.Lts as lts
-use Rattle.edges.proofs.neighbours.clear.Reads as clear-reads
 
 abbrev Inv-loop : tie.InvT-loop
 Inv-loop ends n counts₀ p₀ counts p =
@@ -22,7 +21,7 @@ abbrev μ-loop : tie.MeasureT-loop
 -- src/neighbours.rt:25:5
 loop-holds : tie.Need-loop-holds Inv-loop μ-loop
 loop-holds c =
-    let a = c .before .before .before .before .before .before .args in let r = c .before .before .clear in
+    let a = c .before .before .before .before .before .before .args in let r = c .before .before .fill in
     (search needs, omega (arith, ap length (r .ensures), length-replicate {A = ℕ} (length (now (a .counts))) 0, c .before .before .before .before .before .before .pre), rw (r .ensures) (counted-none (a .n) (length (now (a .counts))) (now (a .ends)) (omega (arith, c .before .before .before .before .before .before .pre))))
 
 -- src/neighbours.rt:30:25

@@ -5,7 +5,7 @@ use denote.Ref.{now}
 use lib.ListN.{length, getD, length-set}
 use Rattle.edges.proofs.Counts.{below}
 use Rattle.edges.proofs.Placing.{Placed, placed-none, placed-skip, placed-room, placed-more, placed-all}
-use mathlib.Core.Path.{_≡_, refl, sym, ap, _∙_}
+use mathlib.Core.Path.{_≡_}
 use Rattle.edges.proofs.neighbours.place_ends.Statement.{statement}
 use Rattle.edges.proofs.neighbours.place_ends.Tie as tie
 use Rattle.edges.proofs.neighbours.place_ends.Reads as reads

@@ -1,10 +1,10 @@
 use borrow.Author.Needs.{needs}
 use mathlib.Core.Path.{_≡_, refl, sym, ap, _∙_}
-use Prim.Native.Nat.{ℕ, _+_, _*_, _-_, _<_, _≤_}
+use Prim.Native.Nat.{ℕ, _-_, _<_, _≤_}
 use native.Mathlib.Omega.{arith}
 use denote.Ref.{now}
 use borrow.Author.Tests.{not-true, not-false}
-use lib.ListN.{length, drop, getD, length-set}
+use lib.ListN.{length, drop}
 use Rattle.laws.specs.Run.{ok, fault, andThen, forEach}
 use Rattle.laws.proofs.Runs.{forEach-next, forEach-end}
 use Rattle.numbers.proofs.Entries.{agrees, agrees-fault}

@@ -1,10 +1,10 @@
 use borrow.Author.Needs.{needs}
 use mathlib.Core.Path.{_≡_, refl, sym, ap, _∙_}
-use Prim.Native.Nat.{ℕ, suc, _+_, _*_, _-_, _<_, _≤_}
+use Prim.Native.Nat.{ℕ, suc, _+_, _-_, _≤_}
 use native.Mathlib.Omega.{arith}
 use denote.Ref.{now}
 use mathlib.Core.List.{_++_, reverse}
-use lib.Seq.{getD-take, take-take}
+use lib.Seq.{getD-take}
 use lib.ListN.{length, getD, take, drop, length-set, length-take}
 use Rattle.grouping.proofs.RingLaws.{back-more, back-none}
 use Rattle.grouping.proofs.ring.copy_back.Statement.{statement}

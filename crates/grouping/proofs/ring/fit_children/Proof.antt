@@ -1,6 +1,5 @@
 use borrow.Author.Needs.{needs}
 use borrow.Author.Tests.{eq-eqb, ne-eqb, le-leb, lt-leb}
-use denote.Ref.{now}
 use Rattle.steps.specs.Add.{fitChildren}
 use Rattle.grouping.proofs.ring.fit_children.Statement.{statement}
 use Rattle.grouping.proofs.ring.fit_children.Tie as tie

@@ -1,9 +1,10 @@
 use borrow.Author.Needs.{needs}
 use denote.Ref.{now}
+use Prim.Native.Nat.{zero-le}
 use lib.IntN.{pos}
 use Rattle.laws.proofs.Windows.{put-in, put-out}
 use Rattle.numbers.proofs.Entries.{agrees, agrees-fault}
-use Rattle.grouping.proofs.NearLaws.{near-cleared}
+use Rattle.numbers.proofs.NearLaws.{set-near}
 use Rattle.grouping.proofs.take.clear_dual.Statement.{statement}
 use Rattle.grouping.proofs.take.clear_dual.Tie as tie
 use Rattle.grouping.proofs.take.clear_dual.Reads as reads
@@ -14,7 +15,7 @@ use Rattle.numbers.proofs.Group.number.Reads as number-reads
 returns : tie.Need-returns
 returns c =
     let a = c .before .before .args in
-    (agrees (rw (← c .before .number .ensures) (put-in (now (a .duals)) (c .before .number .result) (pos 0) (c .if1 .taken))), λ k h. near-cleared k (now (a .duals)) (c .before .number .result) h)
+    (agrees (rw (← c .before .number .ensures) (put-in (now (a .duals)) (c .before .number .result) (pos 0) (c .if1 .taken))), λ k h. set-near k (now (a .duals)) (c .before .number .result) (pos 0) h zero-le)
 
 -- src/take.rt:23:1
 returns-2 : tie.Need-returns-2

@@ -5,7 +5,7 @@ use Prim.Native.Nat.{ℕ, suc, _-_, _≤_}
 use native.Mathlib.Omega.{arith}
 use denote.Ref.{now}
 use lib.ListN.{length, getD, take}
-use Rattle.laws.specs.Run.{Run, Popped, ok, fault, at, pop}
+use Rattle.laws.specs.Run.{ok, fault, at, pop}
 use Rattle.laws.proofs.Windows.{at-in}
 use Rattle.numbers.specs.View.{gotGroup}
 use Rattle.numbers.specs.declared.GotGroup.{GotGroup}

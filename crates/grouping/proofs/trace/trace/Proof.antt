@@ -1,11 +1,11 @@
 use borrow.Author.Needs.{needs}
-use mathlib.Core.Path.{_≡_, refl, sym, ap, _∙_}
-use Prim.Native.Nat.{ℕ, _+_, _*_, _-_, _<_, _≤_}
+use mathlib.Core.Path.{_≡_}
+use Prim.Native.Nat.{_+_, _*_, _-_, _<_, _≤_}
 use native.Mathlib.Omega.{arith}
 use denote.Ref.{now}
 use mathlib.Core.List.{List}
 use lib.ListN.{length, take, length-set}
-use Rattle.laws.specs.Run.{ok, while}
+use Rattle.laws.specs.Run.{while}
 use Rattle.laws.proofs.Runs.{told}
 use Rattle.grouping.proofs.TraceLaws.{window-more, trace-stop, trace-spent, trace-bad, trace-more}
 use Rattle.matching.specs.Graph.{Edge, graphOf}
