@@ -1,18 +1,18 @@
 -- Chains: a group contains a node exactly if it stands in the node's chain; no group stands in a chain twice; two chains that share a
 -- group share all from it to the top. So what is common of two chains is found from the top, and its duals are the sum over all groups.
 use mathlib.Core.Path.{_≡_, refl, sym, ap, subst, _∙_}
-use mathlib.Core.Bool.{Bool, true, false, not, cond, _&&_, _||_}
+use mathlib.Core.Bool.{Bool, true, false, not, _&&_, _||_}
 use mathlib.Core.Logic.{_≢_, _⊎_, inl, inr, ⊎-elim}
 use mathlib.Core.List.{List, [], _∷_, _++_}
 use Prim.Native.Nat.{ℕ, zero, suc, _+_, _*_, _-_, _<_, _≤_, zero-le}
 use native.Mathlib.Nat.{eq-or-lt-of-le}
 use native.Mathlib.Omega.{arith}
 use borrow.Author.Tests.{eq-eqb, ne-eqb}
-use lib.Dec.{T, eqb, eqb→eq, ltb, ltb→lt, nltb→le, leb, leb→le, nleb→lt}
+use lib.Dec.{T, eqb, eqb→eq, ltb, ltb→lt, nltb→le}
 use lib.Ieee.Fits.{and-l, and-r, and-i}
-use lib.IntN.{ℤ, pos, natAbs, _+ℤ_, +ℤ-idl, +ℤ-comm, +ℤ-assoc}
+use lib.IntN.{ℤ, pos, _+ℤ_, +ℤ-idl, +ℤ-comm, +ℤ-assoc}
 use lib.ListN.{length, getD, drop, length-append, length-drop}
-use lib.Seq.{drop-cons, drop-append-le, drop-append-add, getD-append-add}
+use lib.Seq.{drop-append-le, getD-append-add}
 use Rattle.laws.specs.Lists.{Each, member, range, total}
 use Rattle.laws.specs.Run.{if_then_else_}
 use Rattle.laws.proofs.Lists.{each-at}
@@ -20,7 +20,7 @@ use Rattle.matching.specs.Graph.{missing, isMissing}
 use Rattle.matching.specs.Certificate.{parentOf, dualOf, meets}
 use Rattle.matching.specs.Tests.{climbEnds}
 use Rattle.certificate.specs.Chains.{chain, Named, Climbing, commonDuals}
-use Rattle.certificate.proofs.Loops.{getD-any, same-test, is-true}
+use Rattle.laws.proofs.Loops.{getD-any, same-test, is-true}
 
 -- ---- lists
 

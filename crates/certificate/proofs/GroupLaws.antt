@@ -1,8 +1,8 @@
 -- FULL: the list of matched edges as it grows, and the test of one group.
 use mathlib.Core.Path.{_≡_, refl, sym, ap, _∙_}
-use mathlib.Core.Bool.{Bool, true, false, not, _&&_, _||_}
+use mathlib.Core.Bool.{Bool, true, false, _&&_}
 use mathlib.Core.List.{List, [], _∷_, _++_}
-use Prim.Native.Nat.{ℕ, suc, _+_, _*_, _-_, _/_, _%_, _<_, _≤_}
+use Prim.Native.Nat.{ℕ, _+_, _-_, _/_, _%_, _<_, _≤_}
 use native.Mathlib.Nat.{le-refl}
 use native.Mathlib.Numerals.{add-one}
 use native.Mathlib.Omega.{arith}
@@ -13,14 +13,12 @@ use lib.ListN.{length, getD, set, take}
 use lib.Seq.{take-suc-set, take-set-le}
 use lib.Signed.{ltZ}
 use Rattle.laws.specs.Lists.{Each, bit, keep, range, sum}
-use Rattle.laws.specs.Run.{if_then_else_}
-use Rattle.laws.proofs.Lists.{each-keep, each-range, sum-same}
-use Rattle.matching.specs.Graph.{edgeCount}
-use Rattle.matching.specs.Certificate.{Certificate, meets, contains, inside, size, within, matched, pairs, dualOf}
+use Rattle.laws.proofs.Lists.{each-keep, each-range}
+use Rattle.matching.specs.Certificate.{contains, inside, size, within, matched, pairs, dualOf}
 use Rattle.matching.specs.Tests.{fullTest}
 use Rattle.certificate.specs.Groups.{insideBy, withinBy, fullBy, groupFits}
 use Rattle.certificate.specs.Lists.{Known, Weighed, lent, bare, matchedBy, certificateOf}
-use Rattle.certificate.proofs.Loops.{keep-more, keep-skip, keep-same}
+use Rattle.laws.proofs.Loops.{keep-more, keep-skip, keep-same}
 use Rattle.certificate.proofs.ListLaws.{slices, matched-by}
 
 module _ (p : ℕ → Bool) (list : List ℕ) (k e : ℕ) where

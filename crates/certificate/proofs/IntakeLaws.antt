@@ -1,9 +1,8 @@
 -- The edges of three lists, one after the other: the first that is refused, or none.
-use mathlib.Core.Path.{_≡_, refl, sym, ap, _∙_}
-use mathlib.Core.Bool.{Bool, true, false, _&&_}
+use mathlib.Core.Path.{_≡_, refl, ap, _∙_}
+use mathlib.Core.Bool.{Bool, true, false}
 use mathlib.Core.List.{List, [], _∷_}
 use Prim.Native.Nat.{ℕ, zero, suc, _+_, _<_, _≤_}
-use native.Mathlib.Nat.{not-suc-le-zero}
 use native.Mathlib.Numerals.{add-one}
 use native.Mathlib.Omega.{arith}
 use borrow.Author.Tests.{eq-eqb, ne-eqb, lt-ltb, le-ltb}
@@ -14,7 +13,7 @@ use lib.ListN.{length, getD, drop, drop-of-length-le}
 use lib.Seq.{drop-cons}
 use Rattle.laws.specs.Run.{if_then_else_}
 use Rattle.matching.specs.Graph.{Edge, edge, edgesFrom}
-use Rattle.steps.specs.Refusals.{Refusal, NODES, EDGES, BUFFER, Intake, fine, refused, Room, edgeIntake, orElse, edgesIntake, tooShort, intake}
+use Rattle.steps.specs.Refusals.{Refusal, NODES, EDGES, BUFFER, Intake, fine, refused, Room, edgeIntake, edgesIntake, tooShort, intake}
 use Rattle.certificate.specs.Lists.{sameLength, unequal, intakeLists}
 
 pub edges-length : (xs ys : List ℕ) (zs : List ℤ) → length ys ≡ length xs → length zs ≡ length xs → length (edgesFrom xs ys zs) ≡ length xs

@@ -1,32 +1,29 @@
 -- From what each function answers to the verdict, and from the verdict to the check call.
-use mathlib.Core.Path.{_≡_, refl, sym, ap, subst, _∙_}
-use mathlib.Core.Bool.{Bool, true, false, not, _&&_, _||_}
+use mathlib.Core.Path.{_≡_, refl, sym, subst, _∙_}
+use mathlib.Core.Bool.{Bool, true, false, _&&_, _||_}
 use mathlib.Core.List.{List, [], _∷_}
-use Prim.Native.Nat.{ℕ, _+_, _*_, _<_, _≤_}
+use Prim.Native.Nat.{ℕ, _*_, _<_}
 use native.Mathlib.Omega.{arith}
 use lib.Dec.{T, eqb, ltb, ltb→lt, eqb→eq}
 use lib.Ieee.Fits.{and-l, and-r}
-use lib.IntN.{ℤ, pos, natAbs}
-use lib.ListN.{length, getD, take}
-use Rattle.laws.specs.Lists.{Each, all, keep, range}
+use lib.IntN.{ℤ, pos}
+use lib.ListN.{length, getD}
+use Rattle.laws.specs.Lists.{all, keep, range}
 use Rattle.laws.specs.Run.{if_then_else_}
-use Rattle.laws.proofs.Decides.{below}
 use Rattle.laws.proofs.Lists.{each-at}
-use Rattle.matching.specs.Graph.{Graph, Edge, edge, edgesFrom, isMissing, beside, nodeAt, edgesOf}
-use Rattle.matching.specs.Matching.{Optimal}
-use Rattle.matching.specs.Certificate.{Certificate, mateOf, dualOf, offset, Condition, MATE, PARENT, DUAL, EDGE, TIGHT, FREE, FULL, conditions, pairs, Holds}
-use Rattle.matching.specs.Tests.{mateTest, climbEnds, parentTest, dualTest, freeTest, fullTest, edgeTest, tightTest, matesPass, passes, Verdict, YES, NO, verdict, verdictOf}
-use Rattle.matching.proofs.Decided.{decided, yes-optimal}
+use Rattle.matching.specs.Graph.{Graph, Edge, edge, edgesFrom, isMissing, beside, edgesOf}
+use Rattle.matching.specs.Certificate.{Certificate, mateOf, dualOf, offset, Condition, MATE, PARENT, DUAL, EDGE, TIGHT, FREE, FULL}
+use Rattle.matching.specs.Tests.{mateTest, climbEnds, parentTest, dualTest, freeTest, fullTest, edgeTest, tightTest, matesPass, passes, YES, NO, verdict, verdictOf}
+use Rattle.matching.proofs.Decided.{decided}
 use Rattle.steps.specs.Refusals.{Refusal, Intake, fine, refused, Room, intake}
-use Rattle.steps.specs.Check.{Judgement, JUDGED, DECLINED, roomOf, readOf, checkAfter, check}
-use Rattle.steps.proofs.Accepted.{AcceptedEdge, Accepted, accepted, accepted-well-formed}
+use Rattle.steps.specs.Check.{JUDGED, DECLINED, roomOf, readOf, checkAfter, check}
+use Rattle.steps.proofs.Accepted.{AcceptedEdge, Accepted, accepted}
 use Rattle.certificate.specs.Chains.{Climbing}
 use Rattle.certificate.specs.Groups.{groupFits}
-use Rattle.certificate.specs.Lists.{Known, Weighed, Near, lent, bare, room, certificateOf, sameLength, unequal, intakeLists, checkLists, endNode, mateFits, namedAt, matchedBy}
+use Rattle.certificate.specs.Lists.{Known, Weighed, Near, lent, bare, certificateOf, sameLength, unequal, intakeLists, checkLists, endNode, mateFits, namedAt, matchedBy}
 use Rattle.certificate.specs.View.{slacksOf, slackAnswer}
-use Rattle.certificate.specs.declared.slacks.Slacks.{Slacks}
 use Rattle.certificate.specs.declared.slacks.Slacks.the-variants as answers
-use Rattle.certificate.proofs.Loops.{all-same, of-true, is-true}
+use Rattle.laws.proofs.Loops.{all-same, of-true, is-true}
 use Rattle.certificate.proofs.ListLaws.{slices, node-at, mate-at, end-node, parents-all, all-named, all-climb}
 use Rattle.certificate.proofs.IntakeLaws.{edges-length, edge-at}
 use Rattle.certificate.proofs.GroupLaws.{full-by}

@@ -1,4 +1,4 @@
-pub mod Loops
+-- The laws of the check, condition by condition, and its theorem.
 pub mod SignedLaws
 pub mod ListLaws
 pub mod IntakeLaws

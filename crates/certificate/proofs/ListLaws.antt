@@ -1,27 +1,25 @@
 -- What the code reads is what the definition reads: the entries of lists, where the numbers are in range.
-use mathlib.Core.Path.{_≡_, refl, sym, ap, subst, _∙_}
+use mathlib.Core.Path.{_≡_, refl, sym, _∙_}
 use mathlib.Core.Bool.{Bool, true, false, not, _&&_, _||_}
-use mathlib.Core.Logic.{_⊎_, inl, inr, ⊎-elim}
-use mathlib.Core.List.{List, [], _∷_}
-use Prim.Native.Nat.{ℕ, zero, suc, _+_, _*_, _-_, _/_, _%_, _<_, _≤_}
-use native.Mathlib.Nat.{not-suc-le-zero}
-use native.Mathlib.Numerals.{add-one, sub-one}
+use mathlib.Core.Logic.{_⊎_, ⊎-elim}
+use mathlib.Core.List.{List, []}
+use Prim.Native.Nat.{ℕ, zero, suc, _+_, _*_, _-_, _/_, _<_, _≤_}
 use native.Mathlib.Omega.{arith}
 use borrow.Author.Tests.{eq-eqb, ne-eqb}
-use lib.Dec.{T, eqb, leb, ltb}
+use lib.Dec.{eqb}
 use lib.IntN.{ℤ, pos, _+ℤ_}
 use lib.ListN.{length, getD}
 use Rattle.laws.specs.Integers.{isZero}
 use Rattle.laws.specs.Lists.{all, range}
 use Rattle.laws.specs.Run.{if_then_else_}
 use Rattle.laws.proofs.Decides.{Decides, equal, at-most, less, both, either, below, itself}
-use Rattle.matching.specs.Graph.{missing, isMissing, isOdd, beside, nodeAt, firstOf, secondOf, weightOf, edgeCount}
+use Rattle.matching.specs.Graph.{missing, isMissing, isOdd, nodeAt, firstOf, secondOf, weightOf, edgeCount}
 use Rattle.matching.specs.Certificate.{parentOf, mateOf, dualOf, matched, offset}
 use Rattle.matching.specs.Tests.{climbEnds, parentTest, dualTest, freeTest}
 use Rattle.matching.proofs.Readings.{of-slices}
 use Rattle.certificate.specs.Chains.{Named, Climbing}
-use Rattle.certificate.specs.Lists.{Known, Weighed, lent, bare, endNode, mateFits, parentNamed, namedAt, dualFits, matchedBy, certificateOf}
-use Rattle.certificate.proofs.Loops.{getD-any, all-same, all-both, of-true}
+use Rattle.certificate.specs.Lists.{Known, Weighed, lent, bare, endNode, parentNamed, namedAt, dualFits, matchedBy, certificateOf}
+use Rattle.laws.proofs.Loops.{getD-any, all-same, all-both, of-true}
 
 -- ---- ends
 
@@ -32,9 +30,6 @@ end-node n first second p k h = go (isOdd p)
     go : (t : Bool) → (if t then getD second (p / 2) 0 else getD first (p / 2) 0) < n
     go true = k .second-node (p / 2) (omega arith)
     go false = k .first-node (p / 2) (omega arith)
-
-pub beside-in : (p m : ℕ) → p < 2 * m → beside p < 2 * m
-beside-in p m h = omega arith
 
 -- ---- climbing
 

@@ -1,8 +1,8 @@
 -- Signed tests of the code, as tests of a distance from zero.
-use mathlib.Core.Path.{_≡_, refl, sym, ap, subst, _∙_}
-use mathlib.Core.Bool.{Bool, true, false, cond}
+use mathlib.Core.Path.{_≡_, refl, sym, subst, _∙_}
+use mathlib.Core.Bool.{true, false}
 use mathlib.Core.List.{List, [], _∷_}
-use Prim.Native.Nat.{ℕ, zero, suc, _+_, _*_, _-_, _^_, _<_, _≤_, zero-le}
+use Prim.Native.Nat.{ℕ, suc, _+_, _<_, _≤_, zero-le}
 use native.Mathlib.Nat.{not-suc-le-zero}
 use native.Mathlib.Numerals.{add-one}
 use native.Mathlib.Omega.{arith}
@@ -16,9 +16,9 @@ use mir.Syntax.{w64}
 use mir.Val.{SFits, ofZ}
 use Rattle.laws.specs.Integers.{isZero, lesser, leastFrom, least}
 use Rattle.laws.specs.Lists.{Each}
-use Rattle.laws.proofs.Integers.{fits-near}
+use Rattle.laws.proofs.Integers.{fits-near, leastFrom-near}
 use Rattle.certificate.specs.Lists.{Near}
-use Rattle.certificate.proofs.Loops.{each-getD}
+use Rattle.laws.proofs.Loops.{each-getD}
 
 never : {B : Type 0} → false ≡ true → B
 never e = absurd (subst T (sym e) tt)
@@ -56,19 +56,6 @@ module _ (l : List ℤ) {whole : ℤ} (z : ℤ) (v : ℕ) where
   least-end h w = rw (drop-of-length-le l {i = v} h) at w
 
 -- it is as near to zero as all are
-lesser-near : (k : ℕ) (a b : ℤ) → natAbs a ≤ k → natAbs b ≤ k → natAbs (lesser a b) ≤ k
-unfolding lesser
-lesser-near k a b f g = go (ltZ b a)
-  where
-    go : (t : Bool) → natAbs (cond t b a) ≤ k
-    go true = g
-    go false = f
-
-leastFrom-near : (k : ℕ) (a : ℤ) (l : List ℤ) → natAbs a ≤ k → Each (λ z. natAbs z ≤ k) l → natAbs (leastFrom a l) ≤ k
-unfolding leastFrom
-leastFrom-near k a [] h e = h
-leastFrom-near k a (b ∷ bs) h e = leastFrom-near k (lesser a b) bs (lesser-near k a b h (e .0)) (e .1)
-
 pub least-near : (k : ℕ) (l : List ℤ) → Each (λ z. natAbs z ≤ k) l → natAbs (least l) ≤ k
 unfolding least
 least-near k [] e = zero-le

@@ -2,7 +2,7 @@
 use mathlib.Core.Path.{_≡_, refl, sym, ap, _∙_}
 use mathlib.Core.Bool.{Bool, true, false, not, _&&_, _||_}
 use mathlib.Core.List.{List, []}
-use Prim.Native.Nat.{ℕ, _+_, _*_, _-_, _^_, _<_, _≤_, zero-le}
+use Prim.Native.Nat.{ℕ, _+_, _*_, _-_, _<_, _≤_, zero-le}
 use native.Mathlib.Omega.{arith}
 use lib.IntN.{ℤ, pos, negℤ, natAbs, _+ℤ_, _-ℤ_, _*ℤ_}
 use lib.ListN.{length, getD}
@@ -11,18 +11,18 @@ use mir.Syntax.{w64}
 use mir.Val.{SFits, toZ, ofZ}
 use mir.ValLaws.{toZ-ofZ}
 use Rattle.laws.specs.Integers.{isZero}
-use Rattle.laws.specs.Lists.{all, range, total}
+use Rattle.laws.specs.Lists.{all, range}
 use Rattle.laws.specs.Run.{if_then_else_}
 use Rattle.laws.proofs.Integers.{abs-add, abs-neg, abs-double, fits-near}
 use Rattle.laws.proofs.Lists.{each-range, length-range, abs-total}
 use Rattle.matching.specs.Graph.{edgesOf}
-use Rattle.matching.specs.Certificate.{contains, inside, slack, groupDuals, fullSlack, dualOf, matched, meets}
+use Rattle.matching.specs.Certificate.{contains, inside, slack, groupDuals, fullSlack, dualOf, meets}
 use Rattle.matching.specs.Tests.{edgeTest, tightTest}
-use Rattle.certificate.specs.Chains.{Table, commonDuals}
+use Rattle.certificate.specs.Chains.{commonDuals}
 use Rattle.certificate.specs.Lists.{Known, Weighed, Near, lent, matchedBy, certificateOf}
-use Rattle.certificate.specs.View.{slacksOf, slackAnswer}
+use Rattle.certificate.specs.View.{slacksOf}
 use Rattle.certificate.specs.declared.slacks.Slacks.the-variants as answers
-use Rattle.certificate.proofs.Loops.{all-start, all-next, all-stop, all-end, range-more, range-none}
+use Rattle.laws.proofs.Loops.{all-next, all-stop, all-end, range-more, range-none}
 use Rattle.certificate.proofs.ListLaws.{slices, matched-by}
 
 -- ---- sums

@@ -1,17 +1,17 @@
 -- The table of chains: how a climb fills a row, how a row is read, and how two rows are compared from the top.
 use mathlib.Core.Path.{_≡_, refl, sym, ap, subst, _∙_}
-use mathlib.Core.Bool.{Bool, true, false, _||_}
+use mathlib.Core.Bool.{Bool, _||_}
 use mathlib.Core.Logic.{_≢_, _⊎_, inl, inr, ⊎-elim}
 use mathlib.Core.List.{List, [], _∷_}
-use Prim.Native.Nat.{ℕ, zero, suc, _+_, _*_, _-_, _^_, _<_, _≤_, min, zero-le}
+use Prim.Native.Nat.{ℕ, zero, suc, _+_, _*_, _-_, _<_, _≤_, zero-le}
 use native.Mathlib.Nat.{mul-le-mul-right, eq-or-lt-of-le}
 use native.Mathlib.Numerals.{add-one, sub-one}
 use native.Mathlib.Omega.{arith}
 use borrow.Author.Tests.{eq-eqb, ne-eqb}
-use lib.Dec.{T, eqb}
+use lib.Dec.{T}
 use lib.IntN.{ℤ, pos, natAbs, _+ℤ_, +ℤ-comm}
 use lib.ListN.{length, getD, set, take, drop, length-take, length-drop, length-set, drop-of-length-le}
-use lib.Seq.{ext-getD, getD-take, getD-drop, getD-set-same, getD-set-other, drop-cons, drop-length}
+use lib.Seq.{ext-getD, getD-take, getD-drop, getD-set-same, getD-set-other, drop-cons}
 use mir.Syntax.{w64}
 use mir.Val.{SFits}
 use Rattle.laws.specs.Lists.{Each, member, total}
@@ -22,14 +22,11 @@ use Rattle.matching.specs.Graph.{missing, isMissing}
 use Rattle.matching.specs.Certificate.{parentOf, dualOf, meets}
 use Rattle.matching.specs.Tests.{climbEnds}
 use Rattle.certificate.specs.Chains.{chain, Named, Climbing, Climbed, Row, Table, commonDuals}
+use Rattle.numbers.proofs.PoolLaws.{place-row}
 use Rattle.certificate.specs.Lists.{Near}
-use Rattle.certificate.proofs.Loops.{is-true, of-true}
+use Rattle.laws.proofs.Loops.{is-true}
 use Rattle.certificate.proofs.ListLaws.{parent-at}
 use Rattle.certificate.proofs.ChainLaws.{Parted, chain-length, chain-groups, each-drop, chain-entry, common-total, meets-member}
-
--- row v ends where the next begins
-pub row-end : (n v : ℕ) → v < n → v * n + n ≤ n * n
-row-end n v h = omega (arith, mul-le-mul-right n h)
 
 pub row-small : (n v : ℕ) → n ≤ 64 → v < n → v * n + n ≤ 4096
 row-small n v h l = omega (arith, mul-le-mul-right n l, mul-le-mul-right n h)
@@ -109,9 +106,6 @@ pub record Rising (n : ℕ) (parents before : List ℕ) (row p₀ : ℕ) (after 
   pub known : (p ≡ missing → ⊥) → p < 2 * n
 
 module _ (n : ℕ) (parents before : List ℕ) (row p₀ : ℕ) (after : List ℕ) (p k : ℕ) (named : Named n parents) (r : Rising n parents before row p₀ after p k) (q : p ≡ missing → ⊥) where
-  W : List ℕ
-  W = from parents (n - 1) p₀
-
   here : drop k (from parents (n - 1) p₀) ≡ p ∷ from parents (n - 1 - k - 1) (parentOf parents p)
   here = r .rest ∙ from-more parents (n - 1 - k) p q (r .ends)
 
@@ -184,7 +178,7 @@ module _ (n : ℕ) (parents before : List ℕ) (v : ℕ) (climbing : Climbing n 
         written = λ j l. let no-way : ⊥ = omega arith in absurd no-way;
         ahead = λ i l. refl;
         as-long = refl;
-        room = omega (arith, row-end n v h);
+        room = omega (arith, place-row n v h);
         known = λ q. climbing .named .is-group v (omega arith) q .1;
       }
 
@@ -241,7 +235,7 @@ module _ (n : ℕ) (counts pool parents : List ℕ) (t : Table n counts pool par
   count-fits = omega (arith, t .row v h .count, chain-length parents n v)
 
   pub row-length : length (rowOf n counts pool v) ≡ getD counts v 0
-  row-length = simp (length-take, length-drop) (omega (arith, count-fits, row-end n v h, t .pool-fits))
+  row-length = simp (length-take, length-drop) (omega (arith, count-fits, place-row n v h, t .pool-fits))
 
   pub row-is : rowOf n counts pool v ≡ chain parents n v
   row-is = ext-getD 0 (rowOf n counts pool v) (chain parents n v) (row-length ∙ t .row v h .count)
@@ -250,7 +244,7 @@ module _ (n : ℕ) (counts pool parents : List ℕ) (t : Table n counts pool par
       ∙ t .row v h .entry k (omega (arith, row-length, t .row v h .count)))
 
   pub row-place : (k : ℕ) → k < getD counts v 0 → v * n + k < length pool
-  row-place k l = omega (arith, count-fits, row-end n v h, t .pool-fits)
+  row-place k l = omega (arith, count-fits, place-row n v h, t .pool-fits)
 
   pub row-count : getD counts v 0 ≤ n
   row-count = count-fits

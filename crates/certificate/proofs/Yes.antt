@@ -9,13 +9,13 @@ use native.Mathlib.Omega.{arith}
 use lib.IntN.{ℤ}
 use lib.ListN.{length, take}
 use Rattle.laws.specs.Run.{if_then_else_}
-use Rattle.matching.specs.Graph.{Graph, edgesFrom, graphOf}
+use Rattle.matching.specs.Graph.{edgesFrom}
 use Rattle.matching.specs.Matching.{Optimal}
-use Rattle.matching.specs.Certificate.{Certificate, pairs}
-use Rattle.matching.specs.Tests.{Verdict, YES, verdict}
+use Rattle.matching.specs.Certificate.{pairs}
+use Rattle.matching.specs.Tests.{YES}
 use Rattle.matching.proofs.Decided.{yes-optimal}
-use Rattle.steps.specs.Refusals.{Refusal, Intake, fine, refused, intake}
-use Rattle.steps.specs.Check.{Judgement, JUDGED, DECLINED, roomOf, readOf, checkAfter, check}
+use Rattle.steps.specs.Refusals.{Intake, fine, refused, intake}
+use Rattle.steps.specs.Check.{JUDGED, DECLINED, roomOf, readOf, checkAfter, check}
 use Rattle.steps.proofs.Accepted.{accepted, accepted-well-formed}
 use Rattle.certificate.specs.Lists.{lent, certificateOf, sameLength, unequal, checkLists}
 use Rattle.certificate.specs.View.{judgementOf}

@@ -12,7 +12,7 @@ use lib.Signed.{leZ}
 use Rattle.laws.specs.Run.{if_then_else_}
 use Rattle.matching.specs.Graph.{Graph, graphOf, edgesFrom, isMissing, isOdd, beside}
 use Rattle.matching.specs.Certificate.{Certificate, maxDual}
-use Rattle.steps.specs.Refusals.{maxNodes, maxEdges, maxWeight, Refusal, NODES, EDGES, BUFFER, Intake, refused, Room, intake}
+use Rattle.steps.specs.Refusals.{maxNodes, maxEdges, Refusal, NODES, EDGES, BUFFER, Intake, refused, Room, intake}
 use Rattle.steps.specs.Check.{Judgement, DECLINED, check}
 
 -- the graph that three lists describe

@@ -3,7 +3,7 @@ use mathlib.Core.Bool.{Bool, true, false}
 use Prim.Native.Nat.{ℕ}
 use Rattle.laws.specs.Lists.{all}
 use Rattle.matching.specs.Graph.{Graph, edgesOf}
-use Rattle.matching.specs.Certificate.{Certificate, Condition, MATE, PARENT, DUAL, EDGE, TIGHT, FREE, FULL, conditionNumber}
+use Rattle.matching.specs.Certificate.{Certificate, Condition, MATE, PARENT, DUAL, EDGE, TIGHT, FREE, FULL}
 use Rattle.matching.specs.Tests.{Verdict, YES, NO, edgeTest, tightTest}
 use Rattle.steps.specs.Refusals.{Refusal, NODES, EDGES, BUFFER, END, LOOP, WEIGHT, Intake, fine, refused}
 use Rattle.steps.specs.Check.{Judgement, JUDGED, DECLINED, judgementNumber, judgementPlace}

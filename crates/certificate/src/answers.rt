@@ -66,7 +66,7 @@ pub fn cause_place(x: Cause) -> u16
 }
 
 // Document 01's number of a condition.
-pub fn condition_number(x: Condition) -> u16
+fn condition_number(x: Condition) -> u16
     ensures { λ r. ⌜ r ≡ conditionNumber (conditionOf x) ⌝ }
 {
     match x {

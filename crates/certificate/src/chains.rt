@@ -27,7 +27,7 @@ fn climb(n: u16, parents: &[u16], v: Node, pool: &mut [u16]) -> u16
     k
 }
 
-pub fn fill_chains(n: u16, parents: &[u16], counts: &mut [u16], pool: &mut [u16])
+pub(crate) fn fill_chains(n: u16, parents: &[u16], counts: &mut [u16], pool: &mut [u16])
     requires { ⌜ (n ≤ 64) × Climbing n (now parents) × (n ≤ length (now counts)) × (n * n ≤ length (now pool)) ⌝ }
     ensures { λ r. ⌜ Table n (now (counts .exit)) (now (pool .exit)) (now (parents .entry)) ⌝ }
 {
@@ -46,7 +46,7 @@ fn chain_at(n: u16, pool: &[u16], v: Node, k: u16) -> Group
 }
 
 // Group b contains node v.
-pub fn contains(n: u16, counts: &[u16], pool: &[u16], b: Group, v: Node) -> bool
+pub(crate) fn contains(n: u16, counts: &[u16], pool: &[u16], b: Group, v: Node) -> bool
     requires { ⌜ Made n (now counts) (now pool) × (v .0 < n) ⌝ }
     ensures { λ r. ⌜ ((parents : List ℕ) → Table n (now (counts .entry)) (now (pool .entry)) parents → r ≡ meets parents n (v .0) (b .0)) ⌝ }
 {
@@ -59,7 +59,14 @@ pub fn contains(n: u16, counts: &[u16], pool: &[u16], b: Group, v: Node) -> bool
 }
 
 // The duals of all groups that contain both a and b: the two chains are compared from the top, and what they share ends where they part.
-pub fn common_duals(n: u16, counts: &[u16], pool: &[u16], duals: &[i64], a: Node, b: Node) -> i64
+pub(crate) fn common_duals(
+    n: u16,
+    counts: &[u16],
+    pool: &[u16],
+    duals: &[i64],
+    a: Node,
+    b: Node,
+) -> i64
     requires { ⌜ Made n (now counts) (now pool) × Near n (now duals) × (a .0 < n) × (b .0 < n) ⌝ }
     ensures { λ r. ⌜ ((parents : List ℕ) → Table n (now (counts .entry)) (now (pool .entry)) parents → r ≡ commonDuals n (now (duals .entry)) parents (a .0) (b .0)) ⌝ }
 {

@@ -1,9 +1,8 @@
 // FULL: the sizes of groups and the pairs within them. The matched edges are listed once.
 ghost use mathlib.Core.Path.{_≡_};
-ghost use mathlib.Core.Bool.{Bool, _&&_};
 ghost use mathlib.Core.List.{List};
 ghost use Prim.Native.Nat.{ℕ, _*_, _<_, _≤_};
-ghost use lib.ListN.{length, take};
+ghost use lib.ListN.{length};
 ghost use Rattle.laws.specs.Lists.{Each, all, bit as bitOf, keep, range};
 ghost use Rattle.matching.specs.Certificate.{size as sizeOf};
 ghost use Rattle.certificate.specs.Chains.{Table, Made};
@@ -149,7 +148,7 @@ fn groups_pass(
 }
 
 // FULL, of every group with a dual above 0.
-pub fn full_pass(
+pub(crate) fn full_pass(
     n: u16,
     first: &[u16],
     second: &[u16],

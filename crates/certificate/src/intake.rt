@@ -1,6 +1,6 @@
 // What is refused before anything is read of the search or the certificate: answers 1 to 6, in document 01's order.
 ghost use mathlib.Core.Path.{_≡_};
-ghost use Prim.Native.Nat.{ℕ, _≤_};
+ghost use Prim.Native.Nat.{_≤_};
 ghost use lib.ListN.{length};
 ghost use Rattle.matching.specs.Graph.{edge, edgesFrom};
 ghost use Rattle.steps.specs.Refusals.{edgeIntake, edgesIntake, tooShort};
@@ -11,11 +11,11 @@ use crate::answers::Intake;
 use numbers::Edge;
 use numbers::Node;
 
-pub const MAX_NODES: usize = 64;
+const MAX_NODES: usize = 64;
 
-pub const MAX_EDGES: usize = 2048;
+const MAX_EDGES: usize = 2048;
 
-pub const MAX_WEIGHT: i64 = 1000000000;
+const MAX_WEIGHT: i64 = 1000000000;
 
 // At one edge: END, LOOP, WEIGHT.
 fn edge_intake(n: usize, e: Edge, a: Node, b: Node, w: i64) -> Intake

@@ -1,7 +1,7 @@
 // The certificate check: YES exactly where document 01's seven conditions hold, NO with the first that fails, or a refusal before that.
 ghost use mathlib.Core.Path.{_≡_};
 ghost use mathlib.Core.List.{[], _∷_};
-ghost use Prim.Native.Nat.{ℕ, _*_};
+ghost use Prim.Native.Nat.{_*_};
 ghost use lib.ListN.{length};
 ghost use Rattle.matching.specs.Certificate.{EDGE, TIGHT, FREE, FULL};
 ghost use Rattle.matching.specs.Tests.{verdict, verdictOf};
@@ -11,11 +11,11 @@ ghost use Rattle.certificate.specs.Lists.{Known, Weighed, Near, lent, ce
 ghost use Rattle.certificate.specs.View.{judgementOf};
 
 pub mod answers;
-pub mod chains;
-pub mod groups;
+mod chains;
+mod groups;
 pub mod intake;
 pub mod nodes;
-pub mod slacks;
+mod slacks;
 
 use crate::answers::Condition;
 use crate::answers::Intake;

@@ -1,12 +1,12 @@
 // The conditions on mates, parents and duals alone: MATE, PARENT, DUAL, FREE.
 ghost use mathlib.Core.Path.{_≡_};
-ghost use mathlib.Core.Bool.{Bool, not, _&&_, _||_};
+ghost use mathlib.Core.Bool.{not, _&&_, _||_};
 ghost use mathlib.Core.List.{[]};
 ghost use Prim.Native.Nat.{ℕ, _+_, _*_, _<_, _≤_};
 ghost use lib.Dec.{eqb};
 ghost use lib.IntN.{natAbs, _+ℤ_};
 ghost use lib.ListN.{length, getD, take};
-ghost use Rattle.laws.specs.Integers.{isZero, lesser as lesserOf, least as leastOf};
+ghost use Rattle.laws.specs.Integers.{isZero, least as leastOf};
 ghost use Rattle.laws.specs.Lists.{all, range};
 ghost use Rattle.matching.specs.Graph.{beside as besideOf, isMissing};
 ghost use Rattle.matching.specs.Certificate.{offset as offsetOf};
@@ -16,8 +16,9 @@ ghost use Rattle.certificate.specs.Lists.{Known, Near, endNode, mateFits
 use numbers::End;
 use numbers::MISSING;
 use numbers::Node;
+use numbers::amounts::lesser;
 
-pub const MAX_DUAL: i64 = 4503599627370496;
+const MAX_DUAL: i64 = 4503599627370496;
 
 // ---- 11 MATE
 
@@ -61,7 +62,7 @@ fn mate_fits(first: &[u16], second: &[u16], mates: &[u16], v: Node) -> bool
     names_back(first, second, mates, v, End(p))
 }
 
-pub fn mates_pass(n: u16, first: &[u16], second: &[u16], mates: &[u16]) -> bool
+pub(crate) fn mates_pass(n: u16, first: &[u16], second: &[u16], mates: &[u16]) -> bool
     requires { ⌜ Known n (now first) (now second) × (length (now mates) ≡ n) ⌝ }
     ensures { λ r. ⌜ r ≡ all (mateFits (now (first .entry)) (now (second .entry)) (now (mates .entry))) (range 0 n) ⌝ }
 {
@@ -129,7 +130,7 @@ fn climbs_end(n: u16, parents: &[u16]) -> bool
     true
 }
 
-pub fn parents_pass(n: u16, parents: &[u16]) -> bool
+pub(crate) fn parents_pass(n: u16, parents: &[u16]) -> bool
     requires { ⌜ (n ≤ 64) × (length (now parents) ≡ 2 * n) ⌝ }
     ensures { λ r. ⌜ r ≡ all (parentTest (bare n) (now (parents .entry))) (range 0 (2 * n)) ⌝ }
 {
@@ -160,7 +161,7 @@ fn dual_fits(n: u16, flag: bool, i: u16, d: i64) -> bool
     0 <= d
 }
 
-pub fn duals_pass(n: u16, flag: bool, duals: &[i64]) -> bool
+pub(crate) fn duals_pass(n: u16, flag: bool, duals: &[i64]) -> bool
     requires { ⌜ (n ≤ 64) × (length (now duals) ≡ 2 * n) ⌝ }
     ensures { λ r. ⌜ r ≡ all (dualTest (bare n) flag (now (duals .entry))) (range 0 (2 * n)) ⌝ }
 {
@@ -173,12 +174,6 @@ pub fn duals_pass(n: u16, flag: bool, duals: &[i64]) -> bool
 }
 
 // ---- 16 FREE
-
-fn lesser(a: i64, b: i64) -> i64
-    ensures { λ r. ⌜ r ≡ lesserOf a b ⌝ }
-{
-    if b < a { b } else { a }
-}
 
 // The least of the first n duals; 0 if n is 0.
 fn least(n: u16, duals: &[i64]) -> i64
@@ -218,7 +213,7 @@ fn free_fits(mate: u16, dual: i64, o: i64) -> bool
     true
 }
 
-pub fn free_pass(n: u16, flag: bool, mates: &[u16], duals: &[i64]) -> bool
+pub(crate) fn free_pass(n: u16, flag: bool, mates: &[u16], duals: &[i64]) -> bool
     requires { ⌜ (n ≤ 64) × (length (now mates) ≡ n) × Near n (now duals) ⌝ }
     ensures { λ r. ⌜ r ≡ all (freeTest (bare n) flag (certificateOf (now (mates .entry)) (now (duals .entry)) [])) (range 0 n) ⌝ }
 {

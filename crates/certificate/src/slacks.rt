@@ -1,13 +1,11 @@
 // EDGE and TIGHT: one pass over the edges, so each edge's two chains are compared once.
 ghost use mathlib.Core.Path.{_≡_};
-ghost use mathlib.Core.Bool.{Bool, _&&_, _||_, not};
+ghost use mathlib.Core.Bool.{_&&_, _||_, not};
 ghost use mathlib.Core.List.{List, []};
 ghost use Prim.Native.Nat.{ℕ, _<_, _≤_};
 ghost use lib.ListN.{length};
 ghost use Rattle.laws.specs.Integers.{isZero};
-ghost use Rattle.laws.specs.Lists.{all, range};
 ghost use Rattle.matching.specs.Certificate.{fullSlack};
-ghost use Rattle.matching.specs.Tests.{edgeTest, tightTest};
 ghost use Rattle.certificate.specs.Chains.{Table, Made};
 ghost use Rattle.certificate.specs.Lists.{Known, Weighed, Near, lent, certificateOf, matchedBy};
 ghost use Rattle.certificate.specs.View.{slacksOf};
@@ -37,7 +35,7 @@ fn full_slack(
 }
 
 // Each end of e is the mate of the node at the other.
-pub fn is_matched(first: &[u16], second: &[u16], mates: &[u16], e: Edge) -> bool
+pub(crate) fn is_matched(first: &[u16], second: &[u16], mates: &[u16], e: Edge) -> bool
     requires { ⌜ ((n : ℕ) × Known n (now first) (now second) × (n ≤ length (now mates))) × (e .0 < length (now first)) ⌝ }
     ensures { λ r. ⌜ r ≡ matchedBy (now (first .entry)) (now (second .entry)) (now (mates .entry)) (e .0) ⌝ }
 {
@@ -64,14 +62,14 @@ fn either(a: bool, b: bool) -> bool
     if a { true } else { b }
 }
 
-pub enum Slacks {
+pub(crate) enum Slacks {
     Fit,
     Low,
     Loose,
 }
 
 // EDGE fails at the first slack below 0. TIGHT comes after it, so a loose edge is only kept in mind.
-pub fn judge_slacks(
+pub(crate) fn judge_slacks(
     n: u16,
     first: &[u16],
     second: &[u16],

@@ -1,19 +1,17 @@
 -- Document 01's example, from the site file's bytes to the printed bytes, by the definitions.
-use mathlib.Core.Path.{_≡_, refl, sym, ap, _∙_}
+use mathlib.Core.Path.{_≡_, refl, ap, _∙_}
 use mathlib.Core.Bool.{false}
-use mathlib.Core.List.{List, [], _∷_, _++_}
+use mathlib.Core.List.{List, [], _∷_}
 use Prim.Native.Nat.{ℕ}
-use lib.IntN.{pos, negsuc}
 use lib.ListN.{getD}
 use Rattle.laws.specs.Lists.{range, total}
 use Rattle.matching.specs.Graph.{graphOf, nodeAt, firstOf, secondOf, weightOf}
 use Rattle.matching.specs.Certificate.{mateOf}
 use Rattle.steps.specs.Plan.{Plan, plan}
-use Rattle.steps.specs.Table.{Result, planned, result, table, results, exactly, path, plan8}
+use Rattle.steps.specs.Table.{Result, planned, result, exactly, path, plan8}
 use Rattle.steps.proofs.Table.{tableHolds}
-use Rattle.records.specs.Site.{read, CUT}
-use Rattle.printed.specs.Text.{digits, decimal, signedDecimal}
-use Rattle.printed.specs.Answer.{pairAt, pairsAt, printedOther, printedComplaint, pairLine, pairLines, printedDone, printedAnswer, printed}
+use Rattle.printed.specs.Text.{digits, decimal}
+use Rattle.printed.specs.Answer.{pairAt, pairsAt, printedOther, pairLine, pairLines, printedDone, printedAnswer, printed}
 
 -- `DONE 1 11 8` and `1 2 11`
 abbrev pub text : List ℕ

@@ -1,7 +1,7 @@
 -- The pairs found so far, node by node: how many, what they weigh, and their lines; and the pair at one node as the code reads it.
 use mathlib.Core.Path.{_≡_, refl, sym, ap, _∙_}
 use mathlib.Core.Bool.{Bool, true, false}
-use mathlib.Core.List.{List, [], _∷_, _++_, append-assoc}
+use mathlib.Core.List.{List, [], _∷_, _++_, append-assoc, append-nil}
 use Prim.Native.Nat.{ℕ, zero, suc, _+_, _*_, _/_, _^_, _≤_, _<_}
 use native.Mathlib.Nat.{not-suc-le-zero}
 use native.Mathlib.Numerals.{add-one}
@@ -16,20 +16,16 @@ use Rattle.laws.specs.Lists.{range, total}
 use Rattle.laws.specs.Run.{if_then_else_}
 use Rattle.laws.proofs.Integers.{abs-add, fits-near}
 use Rattle.numbers.specs.Near.{Near}
-use Rattle.matching.specs.Graph.{Graph, nodeAt, weightOf, firstOf, secondOf, missing, isMissing, isOdd}
+use Rattle.matching.specs.Graph.{Graph, nodeAt, missing, isOdd}
 use Rattle.matching.specs.Certificate.{mateOf}
 use Rattle.matching.proofs.Readings.{of-slices}
 use Rattle.certificate.specs.Lists.{lent, endNode}
-use Rattle.certificate.proofs.Loops.{getD-any}
+use Rattle.laws.proofs.Loops.{getD-any}
 use Rattle.printed.specs.Text.{decimal, signedDecimal, line}
 use Rattle.printed.specs.Answer.{nameDONE, Pair, pairAt, pairsAt, pairLine, pairLines, printedDone}
 use Rattle.printed.specs.Found.{weightsTotal}
 
 -- ---- lists of pairs, one after another
-
-nothing-after : {A : Type 0} (xs : List A) → xs ++ [] ≡ xs
-nothing-after [] = refl
-nothing-after {A} (x ∷ xs) = ap {B = List A} (λ t. x ∷ t) (nothing-after xs)
 
 pub total-both : (xs ys : List Pair) → weightsTotal (xs ++ ys) ≡ weightsTotal xs +ℤ weightsTotal ys
 unfolding total
@@ -43,7 +39,7 @@ lines-both (x ∷ xs) ys = rw (lines-both xs ys) (sym (append-assoc (pairLine x)
 
 pub one-line : (x : Pair) → pairLine x ≡ pairLines (x ∷ [])
 unfolding pairLines
-one-line x = sym (nothing-after (pairLine x))
+one-line x = sym (append-nil (pairLine x))
 
 pub no-line : [] ≡ pairLines []
 unfolding pairLines
@@ -113,7 +109,7 @@ module _ (G : Graph) (mates : List ℕ) where
 
   pairs-last : (s c : ℕ) → pairsAt G mates (range s (suc c)) ≡ pairsAt G mates (range s c) ++ pairAt G mates (s + c)
   unfolding pairsAt range
-  pairs-last s zero = let e : s + 0 ≡ s = omega arith in rw e (nothing-after (pairAt G mates s))
+  pairs-last s zero = let e : s + 0 ≡ s = omega arith in rw e (append-nil (pairAt G mates s))
   pairs-last s (suc c) =
       let e : s + suc c ≡ suc s + c = omega arith in
       rw (e, pairs-last (suc s) c) (sym (append-assoc (pairAt G mates s) (pairsAt G mates (range (suc s) c)) (pairAt G mates (suc s + c))))

@@ -2,7 +2,7 @@
 use mathlib.Core.Path.{_≡_, refl, sym, ap, subst, _∙_}
 use mathlib.Core.Bool.{true, false}
 use mathlib.Core.List.{List, [], _∷_, _++_, append-assoc}
-use Prim.Native.Nat.{ℕ, zero, suc, _^_, _<_}
+use Prim.Native.Nat.{ℕ, _^_, _<_}
 use native.Mathlib.Omega.{arith}
 use lib.Dec.{T}
 use lib.IntN.{ℤ, pos, negsuc, natAbs, negℤ, _-ℤ_, +ℤ-idl}
@@ -12,11 +12,9 @@ use mir.Val.{Fits, SFits, toZ, ofZ}
 use mir.ValLaws.{toZ-ofZ}
 use borrow.Author.Tests.{ltb-true}
 use Rattle.laws.proofs.Integers.{abs-add, abs-neg, fits-near}
+use Rattle.numbers.proofs.Entries.{no-answer}
 use Rattle.printed.specs.Text.{minus, decimal, signedDecimal, line}
-use Rattle.printed.specs.Answer.{Pair, pairLine, pairLines, nameDONE}
-
-no-answer : {B : Type 0} → true ≡ false → B
-no-answer e = absurd (subst T e tt)
+use Rattle.printed.specs.Answer.{pairLine, nameDONE}
 
 neg-nonNeg : (z : ℤ) → ltZ z (pos 0) ≡ true → T (nonNeg (negℤ z))
 neg-nonNeg (pos n) t = let h : n < 0 = ltb-true n 0 t in let no-way : ⊥ = omega arith in absurd no-way

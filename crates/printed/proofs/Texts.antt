@@ -1,15 +1,14 @@
 -- Text put into a buffer piece by piece; the decimal digits of a number, the last one apart.
 use mathlib.Core.Path.{_≡_, refl, sym, ap, _∙_}
 use mathlib.Core.Bool.{Bool, true, false}
-use mathlib.Core.List.{List, [], _∷_, _++_, append-assoc}
+use mathlib.Core.List.{List, [], _∷_, _++_, append-assoc, append-nil}
 use Prim.Native.Nat.{ℕ, zero, suc, _+_, _-_, _/_, _%_, _≤_, _<_}
 use native.Mathlib.Numerals.{add-one}
 use native.Mathlib.Omega.{arith}
-use borrow.Author.Tests.{lt-ltb, le-ltb, ltb-true, ltb-false}
+use borrow.Author.Tests.{lt-ltb, le-ltb, ltb-false}
 use lib.Dec.{ltb}
 use lib.ListN.{length, getD, set, take, drop, length-set, length-append, length-take, take-append-drop}
-use lib.Seq.{drop-drop, drop-set-lt, take-all, take-suc, take-suc-set, take-append-seam, take-length, length-take-le}
-use Rattle.laws.specs.Run.{if_then_else_}
+use lib.Seq.{drop-drop, drop-set-lt, take-all, take-suc, take-suc-set, take-append-seam, length-take-le}
 use Rattle.printed.specs.Text.{digit, digits, decimal}
 use Rattle.printed.specs.View.{Put}
 
@@ -21,10 +20,6 @@ cut-twice zero a y = refl
 cut-twice (suc k) [] y = refl
 cut-twice (suc k) (x ∷ a) y = ap {B = List ℕ} (λ t. x ∷ t) (cut-twice k a y)
 
-end-nil : (xs : List ℕ) → xs ++ [] ≡ xs
-end-nil [] = refl
-end-nil (x ∷ xs) = ap {B = List ℕ} (λ t. x ∷ t) (end-nil xs)
-
 module _ (buffer : List ℕ) (at : ℕ) where
   taken : at ≤ length buffer → length (take at buffer) ≡ at
   taken h = length-take-le at buffer h
@@ -32,7 +27,7 @@ module _ (buffer : List ℕ) (at : ℕ) where
   pub put-nothing : at ≤ length buffer → Put buffer at [] buffer at
   put-nothing h =
       let e : take (length buffer) (take at buffer ++ []) ≡ take at buffer =
-      rw (end-nil (take at buffer)) (take-all (length buffer) (take at buffer) (omega (arith, taken h))) in
+      rw (append-nil (take at buffer)) (take-all (length buffer) (take at buffer) (omega (arith, taken h))) in
       record { holds = sym e; within = h; counts = rw e (sym (taken h)); rest = refl }
 
   module _ (b : ℕ) where

@@ -65,12 +65,6 @@ refusalName (LOOP e) = nameLOOP
 refusalName (WEIGHT e) = nameWEIGHT
 refusalName BUFFER = nameBUFFER
 
-abbrev pub answerName : Answer → List ℕ
-answerName DONE = nameDONE
-answerName (REFUSED r) = refusalName r
-answerName STEPS = nameSTEPS
-answerName FAULT = nameFAULT
-
 abbrev pub complaintName : site.Complaint → List ℕ
 complaintName site.NODES = nameNODES
 complaintName site.EDGES = nameEDGES

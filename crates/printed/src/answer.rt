@@ -1,7 +1,7 @@
 // Names and lines of the printed answer.
 ghost use mathlib.Core.Path.{_≡_};
 ghost use mathlib.Core.List.{[], _∷_};
-ghost use Prim.Native.Nat.{ℕ, _^_, _≤_, _<_};
+ghost use Prim.Native.Nat.{_^_, _≤_, _<_};
 ghost use lib.IntN.{natAbs};
 ghost use lib.ListN.{length};
 ghost use Rattle.steps.specs.Refusals.{refusalPlace};
@@ -24,7 +24,7 @@ use numbers::Node;
 use records::records::Complaint;
 
 // The name of a refusal: a fixed byte string.
-pub fn put_name(out: &mut [u8], at: usize, c: Complaint) -> usize
+fn put_name(out: &mut [u8], at: usize, c: Complaint) -> usize
     requires { ⌜ at ≤ length (now out) ⌝ }
     ensures { λ r. ⌜ Put (now (out .entry)) at (complaintName (complaintOf c)) (now (out .exit)) r ⌝ }
 {
@@ -52,7 +52,7 @@ pub fn put_complaint(out: &mut [u8], at: usize, c: Complaint, place: u64) -> usi
 }
 
 // A pair's line: lower node, higher node, weight.
-pub fn put_pair(out: &mut [u8], at: usize, lower: Node, higher: Node, w: i64) -> usize
+pub(crate) fn put_pair(out: &mut [u8], at: usize, lower: Node, higher: Node, w: i64) -> usize
     requires { ⌜ (at ≤ length (now out)) × (natAbs w < 2 ^ 62) ⌝ }
     ensures { λ r. ⌜ Put (now (out .entry)) at (pairLine (record { lower = lower .0; higher = higher .0; weight = w })) (now (out .exit)) r ⌝ }
 {
@@ -91,7 +91,7 @@ pub fn put_refusal(out: &mut [u8], at: usize, c: Cause) -> usize
 }
 
 // The first line of a plan that is done: pair count, total weight, steps.
-pub fn put_head(out: &mut [u8], at: usize, count: u16, total: i64, steps: u32) -> usize
+fn put_head(out: &mut [u8], at: usize, count: u16, total: i64, steps: u32) -> usize
     requires { ⌜ (at ≤ length (now out)) × (natAbs total < 2 ^ 62) ⌝ }
     ensures { λ r. ⌜ Put (now (out .entry)) at (line nameDONE (decimal count ∷ signedDecimal total ∷ decimal steps ∷ [])) (now (out .exit)) r ⌝ }
 {

@@ -1,4 +1,4 @@
 // The printed answer, written into a lent buffer. A buffer that is too short holds as much of the text as it has room for.
 pub mod answer;
-pub mod pairs;
-pub mod text;
+mod pairs;
+mod text;

@@ -1,10 +1,9 @@
 // The pairs of a plan, from its mates: how many there are, what they weigh, and their lines, ascending by lower node.
 ghost use mathlib.Core.Path.{_≡_};
 ghost use mathlib.Core.List.{List};
-ghost use Prim.Native.Nat.{ℕ, _^_, _*_, _≤_, _<_};
+ghost use Prim.Native.Nat.{ℕ, _*_, _≤_, _<_};
 ghost use lib.IntN.{ℤ, natAbs};
 ghost use lib.ListN.{length};
-ghost use Rattle.laws.specs.Lists.{total};
 ghost use Rattle.certificate.specs.Lists.{lent};
 ghost use Rattle.numbers.specs.Near.{Near};
 ghost use Rattle.printed.specs.Answer.{pairAt, pairsOf, pairLines};
@@ -18,13 +17,13 @@ use numbers::MISSING;
 use numbers::Node;
 
 // The pair whose lower node is some node: its higher node and its edge; or there is none.
-pub enum Paired {
+enum Paired {
     With(Node, Edge),
     Alone,
 }
 
 // The pair whose lower node is v. A mate that is no end of an edge makes no pair.
-pub fn pair_at(first: &[u16], second: &[u16], mates: &[u16], v: Node) -> Paired
+fn pair_at(first: &[u16], second: &[u16], mates: &[u16], v: Node) -> Paired
     requires { ⌜ (length (now second) ≡ length (now first)) × (v .0 < length (now mates)) ⌝ }
     ensures { λ r. ⌜ ((n : ℕ) → (weight : List ℤ) → length weight ≡ length (now (first .entry)) → pairIn r (v .0) weight ≡ pairAt (lent n (now (first .entry)) (now (second .entry)) weight) (now (mates .entry)) (v .0)) ⌝ }
     ensures { λ r. ⌜ EdgeBelow (length (now (first .entry))) r ⌝ }
@@ -77,7 +76,7 @@ fn put_found(out: &mut [u8], at: usize, v: Node, found: Paired, weight: &[i64]) 
 }
 
 // How many pairs there are.
-pub fn count_pairs(n: u16, first: &[u16], second: &[u16], mates: &[u16]) -> u16
+pub(crate) fn count_pairs(n: u16, first: &[u16], second: &[u16], mates: &[u16]) -> u16
     requires { ⌜ (n ≤ 64) × (length (now mates) ≡ n) × (length (now second) ≡ length (now first)) ⌝ }
     ensures { λ r. ⌜ ((weight : List ℤ) → length weight ≡ length (now (first .entry)) → r ≡ length (pairsOf (lent n (now (first .entry)) (now (second .entry)) weight) (now (mates .entry)))) ⌝ }
 {
@@ -89,7 +88,13 @@ pub fn count_pairs(n: u16, first: &[u16], second: &[u16], mates: &[u16]) -> u16
 }
 
 // What all pairs weigh together.
-pub fn weigh_pairs(n: u16, first: &[u16], second: &[u16], weight: &[i64], mates: &[u16]) -> i64
+pub(crate) fn weigh_pairs(
+    n: u16,
+    first: &[u16],
+    second: &[u16],
+    weight: &[i64],
+    mates: &[u16],
+) -> i64
     requires { ⌜ (n ≤ 64) × (length (now mates) ≡ n) × (length (now second) ≡ length (now first)) × (length (now weight) ≡ length (now first)) × Near 1000000000 (now weight) ⌝ }
     ensures { λ r. ⌜ (r ≡ weightsTotal (pairsOf (lent n (now (first .entry)) (now (second .entry)) (now (weight .entry))) (now (mates .entry)))) × (natAbs r ≤ 64 * 1000000000) ⌝ }
 {
@@ -101,7 +106,7 @@ pub fn weigh_pairs(n: u16, first: &[u16], second: &[u16], weight: &[i64], mates:
 }
 
 // The lines of all pairs.
-pub fn put_pairs(
+pub(crate) fn put_pairs(
     out: &mut [u8],
     at: usize,
     n: u16,

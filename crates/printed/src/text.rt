@@ -1,14 +1,14 @@
 // Bytes, decimal numbers and fields, put after what a buffer holds already.
 ghost use mathlib.Core.Path.{_≡_};
-ghost use mathlib.Core.List.{List, [], _∷_, _++_};
-ghost use Prim.Native.Nat.{ℕ, _+_, _^_, _≤_, _<_};
+ghost use mathlib.Core.List.{[], _∷_};
+ghost use Prim.Native.Nat.{_+_, _^_, _≤_, _<_};
 ghost use lib.IntN.{natAbs};
-ghost use lib.ListN.{length, take};
+ghost use lib.ListN.{length};
 ghost use Rattle.printed.specs.Text.{decimal, signedDecimal};
 ghost use Rattle.printed.specs.View.{Put};
 
 // One byte.
-pub fn put_byte(out: &mut [u8], at: usize, b: u8) -> usize
+pub(crate) fn put_byte(out: &mut [u8], at: usize, b: u8) -> usize
     requires { ⌜ at ≤ length (now out) ⌝ }
     ensures { λ r. ⌜ Put (now (out .entry)) at (b ∷ []) (now (out .exit)) r ⌝ }
 {
@@ -20,7 +20,7 @@ pub fn put_byte(out: &mut [u8], at: usize, b: u8) -> usize
 }
 
 // Some bytes.
-pub fn put_bytes(out: &mut [u8], at: usize, text: &[u8]) -> usize
+pub(crate) fn put_bytes(out: &mut [u8], at: usize, text: &[u8]) -> usize
     requires { ⌜ at ≤ length (now out) ⌝ }
     ensures { λ r. ⌜ Put (now (out .entry)) at (now (text .entry)) (now (out .exit)) r ⌝ }
 {
@@ -34,7 +34,7 @@ pub fn put_bytes(out: &mut [u8], at: usize, text: &[u8]) -> usize
 }
 
 // A number in decimal: what stands before its last digit, and then that.
-pub fn put_decimal(out: &mut [u8], at: usize, x: u64) -> usize
+pub(crate) fn put_decimal(out: &mut [u8], at: usize, x: u64) -> usize
     requires { ⌜ at ≤ length (now out) ⌝ }
     ensures { λ r. ⌜ Put (now (out .entry)) at (decimal x) (now (out .exit)) r ⌝ }
 {
@@ -46,7 +46,7 @@ pub fn put_decimal(out: &mut [u8], at: usize, x: u64) -> usize
 }
 
 // How far a number is from 0.
-pub fn magnitude(w: i64) -> u64
+fn magnitude(w: i64) -> u64
     requires { ⌜ natAbs w < 2 ^ 62 ⌝ }
     ensures { λ r. ⌜ r ≡ natAbs w ⌝ }
 {
@@ -54,7 +54,7 @@ pub fn magnitude(w: i64) -> u64
 }
 
 // A signed number in decimal.
-pub fn put_signed(out: &mut [u8], at: usize, w: i64) -> usize
+pub(crate) fn put_signed(out: &mut [u8], at: usize, w: i64) -> usize
     requires { ⌜ (at ≤ length (now out)) × (natAbs w < 2 ^ 62) ⌝ }
     ensures { λ r. ⌜ Put (now (out .entry)) at (signedDecimal w) (now (out .exit)) r ⌝ }
 {

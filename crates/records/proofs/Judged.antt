@@ -1,12 +1,12 @@
 -- One record judged, by what has been found out of it; and the records of a file one after another.
-use mathlib.Core.Path.{_≡_, refl, sym, ap, _∙_}
+use mathlib.Core.Path.{_≡_, sym, ap, _∙_}
 use mathlib.Core.Bool.{true, false}
-use mathlib.Core.List.{List, [], _∷_}
+use mathlib.Core.List.{List}
 use Prim.Native.Nat.{ℕ, zero, suc, _+_, _≤_, _<_}
 use native.Mathlib.Nat.{add-zero}
 use native.Mathlib.Omega.{arith}
 use borrow.Author.Tests.{lt-ltb, le-ltb}
-use lib.ListN.{length, getD}
+use lib.ListN.{length}
 use Rattle.records.specs.Site.{Kind, body, kindOf, known, unknown, byteAt, Complaint, KIND, CUT, ORDER, Reading, Next, onward, stopped, misplaced, cutShort, takeBody, judgeKind, judge, Outcome, refused, ended, readFrom}
 
 pub at-place : (file : List ℕ) (p : ℕ) {b : ℕ} → b ≡ byteAt file (p + 0) → byteAt file p ≡ b

@@ -1,6 +1,6 @@
 -- Laws that the proofs share: lists cleared from a place on.
 use mathlib.Core.Path.{_≡_, refl, sym, ap, _∙_}
-use mathlib.Core.List.{List, [], _∷_, _++_}
+use mathlib.Core.List.{List, [], _∷_, _++_, append-nil}
 use Prim.Native.Nat.{ℕ, zero, suc, _+_, _*_, _-_, _^_, _≤_, _<_}
 use native.Mathlib.Numerals.{add-one}
 use native.Mathlib.Nat.{mul-le-mul}
@@ -13,6 +13,8 @@ use mir.Syntax.{w32, w64}
 use mir.Val.{Fits, SFits, toZ, ofZ}
 use mir.ValLaws.{toZ-ofZ, toZ-pos}
 use Rattle.laws.proofs.Integers.{abs-add, abs-neg, fits-near}
+use Rattle.laws.proofs.Loops.{getD-any}
+use Rattle.laws.proofs.Windows.{fill-suc}
 use Rattle.records.specs.Site.{byteAt, wordAt, longAt, numberAt, signed, untimed}
 
 -- ---- lists cleared from a place on
@@ -21,14 +23,9 @@ abbrev pub wiped : {A : Type 0} → (k i : ℕ) → A → List A → List A
 wiped k i v d = take k d ++ (replicate (i - k) v ++ drop i d)
 
 module _ {A : Type 0} where
-  fill : (n : ℕ) (v : A) (d : List A) → n < length d → set (replicate n v ++ drop n d) n v ≡ replicate (suc n) v ++ drop (suc n) d
-  fill n v [] l = let no-way : ⊥ = omega arith in absurd no-way
-  fill zero v (x ∷ d) l = refl
-  fill (suc n) v (x ∷ d) l = ap {B = List A} (λ t. v ∷ t) (fill n v d (omega arith))
-
   wipe : (k j i : ℕ) (v : A) (d : List A) → k + j ≡ i → i < length d → set (take k d ++ (replicate j v ++ drop i d)) i v ≡ take k d ++ (replicate (suc j) v ++ drop (suc i) d)
   wipe k j i v [] e l = let no-way : ⊥ = omega arith in absurd no-way
-  wipe zero j i v (x ∷ d) e l = let q : j ≡ i = omega arith in rw q (fill i v (x ∷ d) l)
+  wipe zero j i v (x ∷ d) e l = let q : j ≡ i = omega arith in rw q (fill-suc (x ∷ d) v i l)
   wipe (suc k) j zero v (x ∷ d) e l = let no-way : ⊥ = omega arith in absurd no-way
   wipe (suc k) j (suc i) v (x ∷ d) e l = ap {B = List A} (λ t. x ∷ t) (wipe k j i v d (omega arith) (omega arith))
 
@@ -38,26 +35,16 @@ module _ {A : Type 0} where
   pub wiped-more : (k i : ℕ) (v : A) (d : List A) → k ≤ i → i < length d → set (wiped k i v d) i v ≡ wiped k (i + 1) v d
   wiped-more k i v d h l = let z : i + 1 - k ≡ suc (i - k) = omega arith in rw (z, add-one i) (wipe k (i - k) i v d (omega arith) l)
 
-  pub end-nil : (xs : List A) → xs ++ [] ≡ xs
-  end-nil [] = refl
-  end-nil (x ∷ xs) = ap {B = List A} (λ t. x ∷ t) (end-nil xs)
-
   pub wiped-all : (k i : ℕ) (v : A) (d : List A) → i - k ≤ length d - k → k ≤ i → length d ≤ i → wiped k i v d ≡ take k d ++ replicate (length d - k) v
   wiped-all k i v d b h l =
       let z : i - k ≡ length d - k = omega arith in
-      rw (z, drop-of-length-le d l, end-nil (replicate (length d - k) v))
+      rw (z, drop-of-length-le d l, append-nil (replicate (length d - k) v))
 
 -- ---- reads
 
 -- past the end of a list
 pub past : (l : List ℕ) (i : ℕ) → length l ≤ i → 0 ≡ getD l i 0
 past l i h = sym (List·getD-eq-default l 0 h)
-
--- in a list, what stands for a missing entry is of no account
-any-default : (l : List ℕ) (i d e : ℕ) → i < length l → getD l i d ≡ getD l i e
-any-default [] i d e h = let no-way : ⊥ = omega arith in absurd no-way
-any-default (x ∷ l) zero d e h = refl
-any-default (x ∷ l) (suc i) d e h = any-default l i d e (omega arith)
 
 module _ (n : ℕ) (l : List ℕ) (i : ℕ) where
   pub past-window : n ≤ i → untimed ≡ getD (take n l) i untimed
@@ -67,7 +54,7 @@ module _ (n : ℕ) (l : List ℕ) (i : ℕ) where
   past-table h = let e : length (take n l) ≤ i = rw (length-take n l) (omega arith) in sym (List·getD-eq-default (take n l) untimed e)
 
   pub in-window : i < n → i < length l → getD l i 0 ≡ getD (take n l) i untimed
-  in-window h k = any-default l i 0 untimed k ∙ sym (getD-take n l i untimed h)
+  in-window h k = getD-any l i 0 untimed k ∙ sym (getD-take n l i untimed h)
 
 -- ---- numbers of a file
 

@@ -1,11 +1,11 @@
 -- Site files worked out: document 01's example, the empty file, and one file for each refusal at its place.
 use mathlib.Core.Path.{_≡_, refl}
-use mathlib.Core.Bool.{true, false}
+use mathlib.Core.Bool.{false}
 use mathlib.Core.List.{List, [], _∷_, _++_, map}
 use Prim.Native.Nat.{ℕ}
 use lib.IntN.{pos}
 use lib.ListN.{replicate}
-use Rattle.matching.specs.Graph.{Edge, edge}
+use Rattle.matching.specs.Graph.{edge}
 use Rattle.records.specs.Site.{Reading, Next, stopped, unread, withNodes, untimed, Outcome, read, refused, NODES, EDGES, BUFFER, KIND, CUT, ORDER, TIME, LONG, kindOf, numberAt, signed, budgetOf, misplaced, cutShort, takeNodes, takeFlag, takeBudget, isFull, takeEdge, timeOf, takeTime, takeJoin, takeGo, judgeKind, judge, ended, readFrom, readRecords, readSite}
 
 -- what a file reads as, where the lent lists have room

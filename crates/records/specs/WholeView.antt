@@ -5,7 +5,7 @@ use Prim.Native.Nat.{ℕ, min, _-_, _≤_}
 use lib.IntN.{ℤ, pos}
 use lib.ListN.{length, replicate}
 use Rattle.matching.specs.Graph.{Edge}
-use Rattle.steps.specs.Refusals.{maxNodes, maxEdges}
+use Rattle.steps.specs.Refusals.{maxEdges}
 use Rattle.records.specs.Site as site
 use Rattle.records.specs.View.{complaintOf, edgesIn}
 use Rattle.records.specs.declared.whole.Site.{Site}

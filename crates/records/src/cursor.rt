@@ -1,6 +1,6 @@
 // Numbers at a place of a file, little-endian; a byte past the file's end reads as 0. And the kind that a byte names.
 ghost use mathlib.Core.Path.{_≡_};
-ghost use Prim.Native.Nat.{ℕ, _+_};
+ghost use Prim.Native.Nat.{_+_};
 ghost use lib.Dec.{leb};
 ghost use lib.ListN.{length};
 ghost use Rattle.records.specs.Site.{byteAt, wordAt, longAt, signed as signedOf, kindOf, body as bodyOf};
@@ -34,7 +34,7 @@ fn wide32(x: u16) -> u32
 }
 
 // The byte k past a place.
-pub fn byte_at(file: &[u8], place: usize, k: usize) -> u8
+pub(crate) fn byte_at(file: &[u8], place: usize, k: usize) -> u8
     ensures { λ r. ⌜ r ≡ byteAt (now (file .entry)) (place + k) ⌝ }
 {
     let size = file.len();
@@ -77,7 +77,7 @@ pub fn signed(x: u32) -> i64
 }
 
 // The kind that a byte names.
-pub fn kind_of(b: u8) -> Named
+pub(crate) fn kind_of(b: u8) -> Named
     ensures { λ r. ⌜ namedOf r ≡ kindOf b ⌝ }
 {
     match b {
@@ -93,21 +93,21 @@ pub fn kind_of(b: u8) -> Named
 }
 
 // The kind of the record at a place.
-pub fn kind_at(file: &[u8], at: usize) -> Named
+pub(crate) fn kind_at(file: &[u8], at: usize) -> Named
     ensures { λ r. ⌜ namedOf r ≡ kindOf (byteAt (now (file .entry)) at) ⌝ }
 {
     kind_of(byte_at(file, at, 0))
 }
 
 // No record is left at a place.
-pub fn ended_at(file: &[u8], at: usize) -> bool
+pub(crate) fn ended_at(file: &[u8], at: usize) -> bool
     ensures { λ r. ⌜ r ≡ leb (length (now (file .entry))) at ⌝ }
 {
     file.len() <= at
 }
 
 // How many bytes the body of a kind has.
-pub fn body(k: Kind) -> usize
+pub(crate) fn body(k: Kind) -> usize
     ensures { λ r. ⌜ r ≡ bodyOf (kindView k) ⌝ }
 {
     match k {

@@ -1,16 +1,16 @@
 // The lent lists: one edge stored, throw times, and clearing from a place on.
 ghost use mathlib.Core.Path.{_≡_};
 ghost use mathlib.Core.List.{_++_};
-ghost use Prim.Native.Nat.{ℕ, _+_, _-_, _<_, _≤_};
+ghost use Prim.Native.Nat.{_+_, _-_, _<_};
 ghost use lib.IntN.{pos};
 ghost use lib.ListN.{length, take, set, replicate};
 ghost use Rattle.records.specs.Site.{timeOf, untimed};
 use numbers::Node;
 
-pub const UNTIMED: u32 = 4294967295;
+pub(crate) const UNTIMED: u32 = 4294967295;
 
 // Edge k.
-pub fn put_edge(
+pub(crate) fn put_edge(
     first: &mut [u16],
     second: &mut [u16],
     weight: &mut [i64],
@@ -28,7 +28,7 @@ pub fn put_edge(
 }
 
 // The throw time of node v, where there are n nodes.
-pub fn time_of(times: &[u32], n: u16, v: Node) -> u32
+pub(crate) fn time_of(times: &[u32], n: u16, v: Node) -> u32
     ensures { λ r. ⌜ r ≡ timeOf (take n (now (times .entry))) (v .0) ⌝ }
 {
     let x = v.number();
@@ -40,7 +40,7 @@ pub fn time_of(times: &[u32], n: u16, v: Node) -> u32
 }
 
 // The throw time of node v becomes t, where the table has such a node.
-pub fn put_time(times: &mut [u32], v: Node, t: u32)
+pub(crate) fn put_time(times: &mut [u32], v: Node, t: u32)
     ensures { λ r. ⌜ now (times .exit) ≡ set (now (times .entry)) (v .0) t ⌝ }
 {
     let k = v.number() as usize;
@@ -50,7 +50,7 @@ pub fn put_time(times: &mut [u32], v: Node, t: u32)
 }
 
 // No node has a time.
-pub fn clear_times(times: &mut [u32])
+pub(crate) fn clear_times(times: &mut [u32])
     ensures { λ r. ⌜ now (times .exit) ≡ replicate (length (now (times .entry))) untimed ⌝ }
 {
     let mut i = 0;
@@ -61,7 +61,7 @@ pub fn clear_times(times: &mut [u32])
 }
 
 // Every entry from k on is 0.
-pub fn clear_nodes(list: &mut [u16], k: usize)
+pub(crate) fn clear_nodes(list: &mut [u16], k: usize)
     ensures { λ r. ⌜ now (list .exit) ≡ take k (now (list .entry)) ++ replicate (length (now (list .entry)) - k) 0 ⌝ }
 {
     let mut i = k;
@@ -72,7 +72,7 @@ pub fn clear_nodes(list: &mut [u16], k: usize)
 }
 
 // Every entry from k on is 0.
-pub fn clear_weights(list: &mut [i64], k: usize)
+pub(crate) fn clear_weights(list: &mut [i64], k: usize)
     ensures { λ r. ⌜ now (list .exit) ≡ take k (now (list .entry)) ++ replicate (length (now (list .entry)) - k) (pos 0) ⌝ }
 {
     let mut i = k;

@@ -1,6 +1,6 @@
 // A reader: the lent file and its place. Its functions take it apart and leave the work to functions of the file and the place.
 ghost use mathlib.Core.Path.{_≡_};
-ghost use Prim.Native.Nat.{ℕ, _<_, _≤_};
+ghost use Prim.Native.Nat.{_<_, _≤_};
 ghost use lib.Dec.{leb};
 ghost use lib.ListN.{length};
 ghost use Rattle.steps.specs.Refusals.{maxNodes, maxEdges};

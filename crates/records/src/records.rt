@@ -22,11 +22,11 @@ use crate::lists::put_time;
 use crate::lists::time_of;
 use numbers::Node;
 
-pub const MAX_NODES: u16 = 64;
+const MAX_NODES: u16 = 64;
 
-pub const MAX_EDGES: u16 = 2048;
+pub(crate) const MAX_EDGES: u16 = 2048;
 
-pub const MAX_TIME: u32 = 1000000000;
+const MAX_TIME: u32 = 1000000000;
 
 pub enum Complaint {
     Nodes,
@@ -58,7 +58,7 @@ pub enum Next {
 }
 
 // N not first or repeated, C or B repeated, anything after G.
-pub fn misplaced(k: Kind, s: Reading) -> bool
+fn misplaced(k: Kind, s: Reading) -> bool
     ensures { λ r. ⌜ r ≡ misplacedOf (kindView k) (headOf s) ⌝ }
 {
     if s.gone {
@@ -87,7 +87,7 @@ pub fn misplaced(k: Kind, s: Reading) -> bool
 }
 
 // N: node count.
-pub fn take_nodes(file: &[u8], s: Reading, times: &mut [u32]) -> Next
+fn take_nodes(file: &[u8], s: Reading, times: &mut [u32]) -> Next
     requires { ⌜ (s .place < 65536) × (maxNodes ≤ length (now times)) ⌝ }
     requires { ⌜ Sound s ⌝ }
     ensures { λ r. ⌜ ((F S : List ℕ) (W : List ℤ) → nextOf r F S W (now (times .exit)) ≡ takeNodes (now (file .entry)) (viewOf s F S W (now (times .entry)))) ⌝ }
@@ -107,7 +107,7 @@ pub fn take_nodes(file: &[u8], s: Reading, times: &mut [u32]) -> Next
 }
 
 // C: flag, 0 or 1.
-pub fn take_flag(file: &[u8], s: Reading) -> Next
+fn take_flag(file: &[u8], s: Reading) -> Next
     requires { ⌜ s .place < 65536 ⌝ }
     requires { ⌜ Sound s ⌝ }
     ensures { λ r. ⌜ ((F S : List ℕ) (W : List ℤ) (T : List ℕ) → nextOf r F S W T ≡ takeFlag (now (file .entry)) (viewOf s F S W T)) ⌝ }
@@ -126,7 +126,7 @@ pub fn take_flag(file: &[u8], s: Reading) -> Next
 }
 
 // B: budget.
-pub fn take_budget(file: &[u8], s: Reading) -> Next
+fn take_budget(file: &[u8], s: Reading) -> Next
     requires { ⌜ s .place < 65536 ⌝ }
     requires { ⌜ Sound s ⌝ }
     ensures { λ r. ⌜ ((F S : List ℕ) (W : List ℤ) (T : List ℕ) → nextOf r F S W T ≡ takeBudget (now (file .entry)) (viewOf s F S W T)) ⌝ }
@@ -142,7 +142,7 @@ pub fn take_budget(file: &[u8], s: Reading) -> Next
 }
 
 // G: go.
-pub fn take_go(s: Reading) -> Next
+fn take_go(s: Reading) -> Next
     requires { ⌜ s .place < 65536 ⌝ }
     requires { ⌜ Sound s ⌝ }
     ensures { λ r. ⌜ ((F S : List ℕ) (W : List ℤ) (T : List ℕ) → nextOf r F S W T ≡ takeGo (viewOf s F S W T)) ⌝ }
@@ -156,7 +156,7 @@ pub fn take_go(s: Reading) -> Next
 }
 
 // T: node, throw time.
-pub fn take_time(file: &[u8], s: Reading, times: &mut [u32]) -> Next
+fn take_time(file: &[u8], s: Reading, times: &mut [u32]) -> Next
     requires { ⌜ s .place < 65536 ⌝ }
     requires { ⌜ Sound s ⌝ }
     ensures { λ r. ⌜ ((F S : List ℕ) (W : List ℤ) → nextOf r F S W (now (times .exit)) ≡ takeTime (now (file .entry)) (viewOf s F S W (now (times .entry)))) ⌝ }
@@ -183,7 +183,7 @@ pub fn take_time(file: &[u8], s: Reading, times: &mut [u32]) -> Next
 }
 
 // E: two ends, signed weight.
-pub fn take_edge(
+fn take_edge(
     file: &[u8],
     s: Reading,
     first: &mut [u16],
@@ -211,14 +211,14 @@ pub fn take_edge(
 }
 
 // The lesser of two throw times, as a weight.
-pub fn lesser(t: u32, u: u32) -> i64
+fn lesser(t: u32, u: u32) -> i64
     ensures { λ r. ⌜ r ≡ pos (min t u) ⌝ }
 {
     if t < u { t as i64 } else { u as i64 }
 }
 
 // J: two ends; an edge whose weight is the lesser of the two throw times.
-pub fn take_join(
+fn take_join(
     file: &[u8],
     s: Reading,
     first: &mut [u16],
@@ -263,7 +263,7 @@ pub fn take_join(
 }
 
 // The body of a record that stands where it may, and is whole.
-pub fn take_body(
+fn take_body(
     file: &[u8],
     k: Kind,
     s: Reading,
@@ -290,7 +290,7 @@ pub fn take_body(
 }
 
 // The record at the place that the reading has come to: KIND, ORDER, CUT, the rest.
-pub fn take_record(
+pub(crate) fn take_record(
     file: &[u8],
     s: Reading,
     first: &mut [u16],
@@ -320,7 +320,7 @@ pub fn take_record(
 }
 
 // The record at a place, wherever the reading had come to.
-pub fn take_at(
+pub(crate) fn take_at(
     file: &[u8],
     at: usize,
     s: Reading,

@@ -1,6 +1,6 @@
 // A whole site file, read into three lent lists.
 ghost use mathlib.Core.Path.{_≡_};
-ghost use Prim.Native.Nat.{ℕ, min, _+_, _*_, _<_, _≤_};
+ghost use Prim.Native.Nat.{min, _+_, _*_, _<_, _≤_};
 ghost use lib.ListN.{length};
 ghost use Rattle.steps.specs.Refusals.{maxNodes, maxEdges};
 ghost use Rattle.records.specs.Site.{budgetOf, readFrom, readRecords, readSite, startAt};
@@ -17,7 +17,7 @@ use crate::records::Next;
 use crate::records::Reading;
 use crate::records::take_record;
 
-pub const MAX_BYTES: usize = 65536;
+const MAX_BYTES: usize = 65536;
 
 // What an accepted file says; its edges stand in the lent lists.
 pub struct Head {
@@ -34,7 +34,7 @@ pub enum Site {
 }
 
 // No B means 8·n·(n+1).
-pub fn budget_of(s: Reading) -> u32
+fn budget_of(s: Reading) -> u32
     requires { ⌜ Sound s ⌝ }
     ensures { λ r. ⌜ r ≡ budgetOf (headOf s) ⌝ }
 {
@@ -46,7 +46,7 @@ pub fn budget_of(s: Reading) -> u32
 }
 
 // The records from a place on, one after another.
-pub fn read_from(
+pub(crate) fn read_from(
     file: &[u8],
     at: usize,
     first: &mut [u16],
@@ -93,7 +93,7 @@ pub fn read_from(
 }
 
 // The records of a file, one after another.
-pub fn read_records(
+fn read_records(
     file: &[u8],
     first: &mut [u16],
     second: &mut [u16],
@@ -107,7 +107,7 @@ pub fn read_records(
 }
 
 // LONG, then BUFFER, then the records.
-pub fn read_lists(file: &[u8], first: &mut [u16], second: &mut [u16], weight: &mut [i64]) -> Site
+fn read_lists(file: &[u8], first: &mut [u16], second: &mut [u16], weight: &mut [i64]) -> Site
     ensures { λ r. ⌜ siteView r (now (first .exit)) (now (second .exit)) (now (weight .exit)) ≡ readSite (min (length (now (first .entry))) (min (length (now (second .entry))) (length (now (weight .entry))))) (now (file .entry)) ⌝ }
     ensures { λ r. ⌜ (edgeCount r ≤ length (now (first .entry))) × (edgeCount r ≤ length (now (second .entry))) × (edgeCount r ≤ length (now (weight .entry))) ⌝ }
 {
@@ -129,7 +129,7 @@ pub fn read_lists(file: &[u8], first: &mut [u16], second: &mut [u16], weight: &m
 }
 
 // How many edges a file has; none where it is refused.
-pub fn edge_count(r: Site) -> usize
+fn edge_count(r: Site) -> usize
     ensures { λ k. ⌜ k ≡ edgeCount r ⌝ }
 {
     match r {

@@ -1,6 +1,6 @@
 // What the replay programs share: numbers read from standard input, lists of them, and a number written.
 ghost use mathlib.Core.Path.{_≡_};
-ghost use Prim.Native.Nat.{_<_, _≤_};
+ghost use Prim.Native.Nat.{_+_, _*_, _<_, _≤_};
 ghost use lib.ListN.{length};
 use libc::STDIN_FILENO;
 use libc::STDOUT_FILENO;
@@ -14,7 +14,10 @@ fn wide(b: u8) -> u64
     b as u64
 }
 
-pub fn pair(a: u8, b: u8) -> u16 {
+// The number of two bytes, the low one first.
+pub fn pair(a: u8, b: u8) -> u16
+    ensures { λ r. ⌜ r ≡ a + 256 * b ⌝ }
+{
     a as u16 + 256 * (b as u16)
 }
 

@@ -1,7 +1,7 @@
 // Reads each site file of standard input and writes what it reads as, one to a line: 0, n, flag, budget and how many edges, or the
 // refusal's number and place; then = where the three lent lists are what they must be over their whole length, and ! where not.
 // The input and the lines that must come out are made by compare/site-files, which knows document 01 and nothing of this code.
-ghost use Prim.Native.Nat.{ℕ, _<_};
+ghost use Prim.Native.Nat.{_<_};
 use libc::STDIN_FILENO;
 use libc::STDOUT_FILENO;
 use records::cursor::long_at;

@@ -1,5 +1,4 @@
-use mathlib.Core.Path.{_≡_, refl, sym, ap, subst, _∙_}
-use native.Mathlib.Omega.{arith}
+use mathlib.Core.Path.{sym, ap, _∙_}
 use borrow.Author.Needs.{needs}
 use borrow.Author.Tests.{not-true, not-false}
 use denote.Ref.{now}
@@ -7,7 +6,6 @@ use mathlib.Core.Bool.{true, false}
 use Rattle.matching.specs.Certificate.{MATE, PARENT, DUAL}
 use Rattle.matching.specs.Tests.{verdict}
 use Rattle.steps.specs.Check.{JUDGED}
-use Rattle.certificate.proofs.ListLaws.{parents-all, all-named, all-climb}
 use Rattle.certificate.proofs.JudgeLaws.{says-no, goes-on, mates-are, parents-are, duals-are, duals-near, climbing-of}
 use Rattle.certificate.proofs.judge.Statement.{statement}
 use Rattle.certificate.proofs.judge.Tie as tie

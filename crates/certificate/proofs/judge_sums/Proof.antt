@@ -1,13 +1,10 @@
-use mathlib.Core.Path.{_≡_, refl, sym, ap, subst, _∙_}
-use mathlib.Core.List.{[], _∷_}
-use Prim.Native.Nat.{ℕ, _*_, _≤_}
-use native.Mathlib.Nat.{mul-le-mul-right}
-use native.Mathlib.Omega.{arith}
+use mathlib.Core.Path.{sym, ap, _∙_}
 use borrow.Author.Needs.{needs}
 use borrow.Author.Tests.{not-true, not-false}
 use denote.Ref.{now}
 use Rattle.matching.specs.Certificate.{EDGE, TIGHT, FREE, FULL}
 use Rattle.steps.specs.Check.{JUDGED}
+use Rattle.numbers.proofs.PoolLaws.{pool-room}
 use Rattle.certificate.proofs.JudgeLaws.{says-no, goes-on, all-hold, when-low, when-loose, when-fit, free-are, full-are}
 use Rattle.certificate.proofs.judge_sums.Statement.{statement}
 use Rattle.certificate.proofs.judge_sums.Tie as tie
@@ -18,11 +15,8 @@ use Rattle.certificate.proofs.slacks.judge_slacks.Reads as judge-slacks
 use Rattle.certificate.proofs.groups.full_pass.Reads as full-pass-reads
 use Rattle.certificate.proofs.nodes.free_pass.Reads as free-pass-reads
 
-square : (n : ℕ) → n ≤ 64 → n * n ≤ 4096
-square n h = omega (arith, mul-le-mul-right n h)
-
 fill-chains-requires : tie.Need-fill-chains-requires
-fill-chains-requires c κs = (c .before .before .before .before .before .before .pre .0 .few-nodes, c .before .before .before .before .before .before .pre .4, c .before .before .before .before .before .before .pre .0 .few-nodes, square (c .before .before .before .before .before .before .args .n) (c .before .before .before .before .before .before .pre .0 .few-nodes))
+fill-chains-requires c κs = (c .before .before .before .before .before .before .pre .0 .few-nodes, c .before .before .before .before .before .before .pre .4, c .before .before .before .before .before .before .pre .0 .few-nodes, pool-room (c .before .before .before .before .before .before .args .n) (c .before .before .before .before .before .before .pre .0 .few-nodes))
 
 judge-slacks-requires : tie.Need-judge-slacks-requires
 judge-slacks-requires c κs = (c .before .before .before .before .before .before .before .before .before .before .before .pre .0, c .before .before .before .before .before .before .before .before .before .before .before .pre .1, c .before .before .before .before .before .before .before .before .before .before .before .pre .2, c .before .before .before .before .before .before .before .before .before .before .before .pre .3, record { parents = now (c .before .before .before .before .before .before .before .before .before .before .before .args .parents); table = c .before .before .before .before .fill-chains .ensures })

@@ -1,9 +1,8 @@
 -- Each turn writes one group; what is left of the chain gets shorter by it.
-use mathlib.Core.Path.{_≡_, refl, sym, ap, subst, _∙_}
-use Prim.Native.Nat.{ℕ, _+_, _*_, _-_, _≤_, _<_}
+use Prim.Native.Nat.{_-_}
 use native.Mathlib.Omega.{arith}
 use borrow.Author.Needs.{needs}
-use lib.ListN.{length, getD}
+use lib.ListN.{length}
 use Rattle.certificate.proofs.TableLaws.{Rising, rising-start, rising-few, rising-next, rising-end, row-small}
 use Rattle.certificate.proofs.chains.climb.Statement.{statement}
 use Rattle.certificate.proofs.chains.climb.Tie as tie

@@ -1,17 +1,17 @@
 -- The two rows are compared from the top. The invariant, `Shared`: what lies above the two places is the same in both, and the sum is its.
-use mathlib.Core.Path.{_≡_, refl, sym, ap, subst, _∙_}
-use Prim.Native.Nat.{ℕ, _+_, _*_, _-_, _≤_, _<_}
+use mathlib.Core.Path.{_≡_, sym, _∙_}
+use Prim.Native.Nat.{_+_, _*_, _-_}
 use native.Mathlib.Omega.{arith}
 use borrow.Author.Needs.{needs}
 use denote.Ref.{now}
-use lib.IntN.{ℤ, pos, _+ℤ_}
-use lib.ListN.{length, getD, drop}
+use lib.IntN.{pos}
+use lib.ListN.{getD}
 use mir.Syntax.{w64}
 use mir.Val.{toZ, ofZ}
 use mir.ValLaws.{toZ-ofZ}
 use Rattle.matching.specs.Certificate.{dualOf}
 use Rattle.certificate.proofs.SignedLaws.{near-fits}
-use Rattle.certificate.proofs.TableLaws.{Shared, shared-start, shared-next, shared-group, shared-fits, stop-first, stop-second, stop-apart, row-place, row-count}
+use Rattle.certificate.proofs.TableLaws.{Shared, shared-start, shared-next, shared-group, shared-fits, stop-first, stop-second, stop-apart, row-place}
 use Rattle.certificate.proofs.chains.common_duals.Statement.{statement}
 use Rattle.certificate.proofs.chains.common_duals.Tie as tie
 use Rattle.certificate.proofs.chains.common_duals.Reads as reads

@@ -1,11 +1,11 @@
-use mathlib.Core.Path.{_≡_, refl, sym, ap, _∙_}
-use Prim.Native.Nat.{ℕ, _+_, _*_, _-_, _≤_, _<_}
+use mathlib.Core.Path.{_≡_, refl, sym, _∙_}
+use Prim.Native.Nat.{_+_, _*_, _-_, _≤_, _<_}
 use native.Mathlib.Omega.{arith}
 use denote.Ref.{now}
 use borrow.Author.Needs.{needs}
-use lib.ListN.{length, getD, drop}
+use lib.ListN.{getD, drop}
 use Rattle.laws.specs.Lists.{member}
-use Rattle.certificate.proofs.Loops.{find-here, find-next, find-none}
+use Rattle.laws.proofs.Loops.{find-here, find-next, find-none}
 use Rattle.certificate.proofs.TableLaws.{rowOf, row-length, row-place, row-count, row-entry, row-meets}
 use Rattle.certificate.proofs.chains.contains.Statement.{statement}
 use Rattle.certificate.proofs.chains.contains.Tie as tie

@@ -1,14 +1,13 @@
-use mathlib.Core.Path.{_≡_, refl, sym, ap, _∙_}
+use mathlib.Core.Path.{_≡_, refl, sym, _∙_}
 use mathlib.Core.List.{List}
-use Prim.Native.Nat.{ℕ, _*_, _-_, _≤_, _<_}
+use Prim.Native.Nat.{ℕ, _*_, _-_, _≤_}
 use native.Mathlib.Omega.{arith}
-use borrow.Author.Needs.{needs}
 use borrow.Author.Tests.{not-true, not-false}
 use denote.Ref.{now}
 use Rattle.laws.specs.Lists.{all, range}
 use Rattle.certificate.specs.Chains.{Table}
 use Rattle.certificate.specs.Groups.{groupFits}
-use Rattle.certificate.proofs.Loops.{all-from, all-next, all-stop, all-end}
+use Rattle.laws.proofs.Loops.{all-from, all-next, all-stop, all-end}
 use Rattle.certificate.proofs.groups.groups_pass.Statement.{statement}
 use Rattle.certificate.proofs.groups.groups_pass.Tie as tie
 use Rattle.certificate.proofs.groups.groups_pass.Reads as reads

@@ -1,5 +1,3 @@
-use mathlib.Core.Path.{_≡_, refl, sym, ap, _∙_}
-use native.Mathlib.Omega.{arith}
 use borrow.Author.Needs.{needs}
 use Rattle.certificate.specs.Groups.{fullBy}
 use Rattle.certificate.proofs.GroupLaws.{even-size, odd-size}

@@ -1,6 +1,6 @@
-use mathlib.Core.Path.{_≡_, refl, sym, ap, _∙_}
+use mathlib.Core.Path.{_≡_, refl}
 use mathlib.Core.List.{List}
-use Prim.Native.Nat.{ℕ, _+_, _-_, _≤_, _<_}
+use Prim.Native.Nat.{ℕ, _+_, _-_, _≤_}
 use native.Mathlib.Omega.{arith}
 use borrow.Author.Needs.{needs}
 use denote.Ref.{now}
@@ -9,7 +9,7 @@ use Rattle.laws.specs.Lists.{bit, sum}
 use Rattle.laws.proofs.Lists.{each-at}
 use Rattle.certificate.specs.Chains.{Table}
 use Rattle.certificate.specs.Groups.{insideBy, withinBy}
-use Rattle.certificate.proofs.Loops.{entries-next, entries-end}
+use Rattle.laws.proofs.Loops.{entries-next, entries-end}
 use Rattle.certificate.proofs.GroupLaws.{bit-few}
 use Rattle.certificate.proofs.groups.pairs_within.Statement.{statement}
 use Rattle.certificate.proofs.groups.pairs_within.Tie as tie

@@ -1,12 +1,12 @@
-use mathlib.Core.Path.{_≡_, refl, sym, ap, _∙_}
+use mathlib.Core.Path.{_≡_}
 use mathlib.Core.List.{List}
-use Prim.Native.Nat.{ℕ, _+_, _-_, _≤_, _<_}
+use Prim.Native.Nat.{ℕ, _+_, _-_, _≤_}
 use native.Mathlib.Omega.{arith}
 use borrow.Author.Needs.{needs}
 use Rattle.laws.specs.Lists.{bit, range, sum}
 use Rattle.matching.specs.Certificate.{meets, contains, size}
 use Rattle.certificate.specs.Chains.{Table}
-use Rattle.certificate.proofs.Loops.{sum-start, sum-next, sum-end}
+use Rattle.laws.proofs.Loops.{sum-start, sum-next, sum-end}
 use Rattle.certificate.proofs.GroupLaws.{bit-few}
 use Rattle.certificate.proofs.groups.size_of.Statement.{statement}
 use Rattle.certificate.proofs.groups.size_of.Tie as tie

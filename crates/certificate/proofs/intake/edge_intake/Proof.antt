@@ -1,5 +1,4 @@
-use mathlib.Core.Path.{_≡_, refl, sym, _∙_}
-use mathlib.Core.Bool.{Bool, true, false}
+use mathlib.Core.Path.{_≡_}
 use Prim.Native.Nat.{ℕ, _≤_, _<_}
 use borrow.Author.Needs.{needs}
 use borrow.Author.Tests.{eq-eqb, ne-eqb, le-leb, lt-leb, lt-ltb, le-ltb}
@@ -7,7 +6,7 @@ use lib.IntN.{ℤ, natAbs}
 use mir.Syntax.{w64}
 use mir.ValLaws.{toZ-ofZ}
 use Rattle.matching.specs.Graph.{edge}
-use Rattle.steps.specs.Refusals.{Intake, fine, refused, END, LOOP, WEIGHT, edgeIntake}
+use Rattle.steps.specs.Refusals.{fine, refused, END, LOOP, WEIGHT, edgeIntake}
 use Rattle.certificate.proofs.SignedLaws.{far-up, far-down, near}
 use Rattle.certificate.proofs.intake.edge_intake.Statement.{statement}
 use Rattle.certificate.proofs.intake.edge_intake.Tie as tie

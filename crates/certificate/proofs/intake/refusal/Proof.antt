@@ -1,4 +1,4 @@
-use mathlib.Core.Path.{_≡_, refl, sym, ap, _∙_}
+use mathlib.Core.Path.{sym, _∙_}
 use borrow.Author.Needs.{needs}
 use Rattle.certificate.proofs.IntakeLaws.{nodes-first, edges-second, seconds-differ, weights-differ, lists-short, edges-last}
 use Rattle.certificate.proofs.intake.refusal.Statement.{statement}

@@ -12,7 +12,7 @@ use Rattle.laws.specs.Lists.{all, range}
 use Rattle.matching.specs.Tests.{dualTest}
 use Rattle.certificate.specs.Lists.{bare}
 use Rattle.certificate.proofs.ListLaws.{dual-test}
-use Rattle.certificate.proofs.Loops.{all-start, all-next, all-stop, all-end}
+use Rattle.laws.proofs.Loops.{all-start, all-next, all-stop, all-end}
 use Rattle.certificate.proofs.nodes.duals_pass.Statement.{statement}
 use Rattle.certificate.proofs.nodes.duals_pass.Tie as tie
 use Rattle.certificate.proofs.nodes.duals_pass.Reads as reads

@@ -1,8 +1,7 @@
-use mathlib.Core.Path.{_≡_, refl, sym, ap, _∙_}
+use mathlib.Core.Path.{_≡_, sym, _∙_}
 use mathlib.Core.List.{[]}
-use Prim.Native.Nat.{_*_, _-_, _≤_}
+use Prim.Native.Nat.{_-_, _≤_}
 use native.Mathlib.Omega.{arith}
-use borrow.Author.Needs.{needs}
 use borrow.Author.Tests.{not-true, not-false}
 use denote.Ref.{now}
 use lib.IntN.{pos, natAbs}
@@ -16,7 +15,7 @@ use Rattle.matching.specs.Tests.{freeTest}
 use Rattle.certificate.specs.Lists.{bare, certificateOf}
 use Rattle.certificate.proofs.SignedLaws.{near-fits}
 use Rattle.certificate.proofs.ListLaws.{free-test}
-use Rattle.certificate.proofs.Loops.{all-start, all-next, all-stop, all-end}
+use Rattle.laws.proofs.Loops.{all-start, all-next, all-stop, all-end}
 use Rattle.certificate.proofs.nodes.free_pass.Statement.{statement}
 use Rattle.certificate.proofs.nodes.free_pass.Tie as tie
 use Rattle.certificate.proofs.nodes.free_pass.Reads as reads

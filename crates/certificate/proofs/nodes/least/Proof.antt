@@ -1,11 +1,10 @@
-use mathlib.Core.Path.{_≡_, refl, sym, ap, _∙_}
-use Prim.Native.Nat.{_*_, _-_, _≤_}
+use mathlib.Core.Path.{_≡_}
+use Prim.Native.Nat.{_-_, _≤_}
 use native.Mathlib.Omega.{arith}
 use borrow.Author.Needs.{needs}
 use denote.Ref.{now}
-use lib.IntN.{ℤ, pos}
-use lib.ListN.{length, getD, take, drop, length-take}
-use lib.Seq.{getD-take}
+use lib.IntN.{pos}
+use lib.ListN.{getD, take, drop}
 use mir.Syntax.{w64}
 use mir.Val.{toZ}
 use mir.ValLaws.{toZ-ofZ}
@@ -15,7 +14,6 @@ use Rattle.certificate.proofs.nodes.least.Statement.{statement}
 use Rattle.certificate.proofs.nodes.least.Tie as tie
 use Rattle.certificate.proofs.nodes.least.Reads as reads
 use Rattle.certificate.proofs.nodes.least.Lts as lts
-use Rattle.certificate.proofs.nodes.lesser.Reads as lesser-reads
 
 abbrev Inv-loop : tie.InvT-loop
 Inv-loop n duals low₀ v₀ low v = (1 ≤ v) × (v ≤ n) × (leastFrom (toZ w64 low) (drop v (take n duals)) ≡ least (take n duals))

@@ -5,7 +5,8 @@ use borrow.Author.Needs.{needs}
 use borrow.Author.Tests.{eq-eqb, ne-eqb}
 use Rattle.matching.specs.Graph.{beside}
 use Rattle.certificate.specs.Lists.{endNode}
-use Rattle.certificate.proofs.ListLaws.{end-node, beside-in}
+use Rattle.numbers.proofs.EdgeLaws.{beside-in}
+use Rattle.certificate.proofs.ListLaws.{end-node}
 use Rattle.certificate.proofs.nodes.names_back.Statement.{statement}
 use Rattle.certificate.proofs.nodes.names_back.Tie as tie
 use Rattle.certificate.proofs.nodes.names_back.Reads as reads

@@ -1,16 +1,11 @@
 -- The sums in the code's order; `SlackLaws` shows that each fits.
-use mathlib.Core.Path.{_≡_, refl, sym, ap, _∙_}
-use mathlib.Core.List.{[]}
-use Prim.Native.Nat.{ℕ, _*_, _≤_, _<_}
+use mathlib.Core.Path.{_∙_}
+use Prim.Native.Nat.{_*_, _≤_, _<_}
 use native.Mathlib.Omega.{arith}
 use borrow.Author.Needs.{needs}
 use denote.Ref.{now}
-use lib.IntN.{ℤ, pos, natAbs, _+ℤ_, _-ℤ_, _*ℤ_}
-use lib.ListN.{length, getD}
-use mir.Syntax.{w64}
-use mir.ValLaws.{toZ-ofZ}
-use Rattle.certificate.specs.Chains.{commonDuals}
-use Rattle.certificate.proofs.SignedLaws.{near-fits}
+use lib.IntN.{pos, natAbs}
+use lib.ListN.{getD}
 use Rattle.certificate.proofs.SlackLaws.{common-near, bits-ends, bits-weight, bits-slack, bits-common, bits-full, bits-result, slack-is}
 use Rattle.certificate.proofs.slacks.full_slack.Statement.{statement}
 use Rattle.certificate.proofs.slacks.full_slack.Tie as tie

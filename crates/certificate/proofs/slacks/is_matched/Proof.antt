@@ -1,8 +1,6 @@
-use mathlib.Core.Path.{_≡_, refl, sym, ap, _∙_}
 use native.Mathlib.Omega.{arith}
 use borrow.Author.Needs.{needs}
 use borrow.Author.Tests.{eq-eqb, ne-eqb}
-use lib.ListN.{getD}
 use Rattle.certificate.specs.Lists.{matchedBy}
 use Rattle.certificate.proofs.slacks.is_matched.Statement.{statement}
 use Rattle.certificate.proofs.slacks.is_matched.Tie as tie

@@ -1,14 +1,12 @@
 use borrow.Author.Needs.{needs}
-use borrow.Author.Fill.{fill-more}
 use mathlib.Core.Path.{_≡_, refl, _∙_}
 use mathlib.Core.List.{_++_}
 use Prim.Native.Nat.{_-_, _≤_}
 use native.Mathlib.Omega.{arith}
 use denote.Ref.{now}
 use lib.ListN.{length, length-set, drop, replicate}
-use lib.Seq.{drop-length}
+use Rattle.laws.proofs.Windows.{fill-more, fill-all}
 use Rattle.records.specs.Site.{untimed}
-use Rattle.records.proofs.Laws.{end-nil}
 use Rattle.records.proofs.lists.clear_times.Statement.{statement}
 use Rattle.records.proofs.lists.clear_times.Tie as tie
 use Rattle.records.proofs.lists.clear_times.Reads as reads
@@ -32,7 +30,7 @@ clear-times-spec =
     (λ c. search needs)
     (λ c. search needs)
     (λ c. let a = c .before .before .args in let l = c .before .loop in
-    (omega arith, simp length-set (l .inv .1), rw (l .inv .2) (fill-more (l .i) untimed (now (a .times)) (omega arith))))
+    (omega arith, simp length-set (l .inv .1), rw (l .inv .2) (fill-more (now (a .times)) untimed (l .i) (omega arith))))
     (λ c. search needs)
     (λ c. let a = c .before .before .args in let l = c .before .loop in
-    let e : l .i ≡ length (now (a .times)) = omega arith in l .inv .2 ∙ rw (e, drop-length (now (a .times))) (end-nil _)))
+    l .inv .2 ∙ fill-all (now (a .times)) untimed (l .i) (omega arith)))
