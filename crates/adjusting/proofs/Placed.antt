@@ -8,7 +8,7 @@ use lib.IntN.{ℤ}
 use lib.ListN.{take}
 use Rattle.laws.specs.Integers.{isEven, half}
 use Rattle.laws.specs.Run.{if_then_else_, must, at}
-use Rattle.laws.proofs.Sure.{Kept, kept, kept-bind, kept-ok, kept-if, kept-onlyIf, kept-forRange}
+use Rattle.laws.proofs.Kept.{Kept, kept, kept-bind, kept-ok, kept-if, kept-onlyIf, kept-forRange}
 use Rattle.laws.proofs.Keeping.{skip}
 use Rattle.matching.specs.Graph.{Graph, isMissing}
 use Rattle.steps.specs.Ends.{slackOf}

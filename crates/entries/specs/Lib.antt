@@ -1,2 +1,3 @@
+-- Edge entries, and the two calls on them.
 pub mod Entries
 pub mod Calls

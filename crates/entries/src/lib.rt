@@ -1,7 +1,6 @@
 // The plan call and the check call on an edge list lent as a list of edge entries. `split` reads the entries into three lists, and the
 // core works on those.
 ghost use mathlib.Core.Path.{_≡_};
-ghost use Prim.Native.Nat.{ℕ};
 ghost use lib.ListN.{length, take};
 ghost use Rattle.steps.specs.Check.{check as checkOf};
 ghost use Rattle.steps.specs.Plan.{plan as planned};
@@ -32,7 +31,7 @@ pub struct EdgeLists {
 }
 
 // Of more than 2,048 entries none is copied, and the count tells.
-pub fn split(edges: &[EdgeEntry]) -> EdgeLists
+fn split(edges: &[EdgeEntry]) -> EdgeLists
     ensures { λ r. ⌜ r ≡ listsOf (now (edges .entry)) ⌝ }
 {
     let mut first: [u16; 2048] = [0; 2048];

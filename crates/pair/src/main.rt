@@ -1,5 +1,5 @@
 // Plans the site file that standard input holds, and prints the answer. A read or a write that fails is said on standard error.
-ghost use Prim.Native.Nat.{ℕ, _-_, _≤_};
+ghost use Prim.Native.Nat.{_-_, _≤_};
 ghost use lib.ListN.{length};
 ghost use Rattle.pair.specs.View.{Within};
 use libc::STDIN_FILENO;

@@ -8,14 +8,8 @@ use lib.ListN.{length, getD, set, take, drop}
 use Rattle.laws.proofs.Windows.{write-more, write-all}
 use Rattle.matching.specs.Graph.{edgesFrom}
 use Rattle.numbers.specs.Edges.{endsOf, weightsOf}
-use Rattle.numbers.proofs.EdgeLaws.{length-endsOf}
+use Rattle.numbers.proofs.EdgeLaws.{first-next, second-next, length-endsOf}
 use Rattle.certificate.proofs.IntakeLaws.{edges-length}
-
-two-more : (e : ℕ) → 2 * suc e ≡ suc (suc (2 * e))
-two-more e = omega arith
-
-three-more : (e : ℕ) → 2 * suc e + 1 ≡ suc (suc (2 * e + 1))
-three-more e = omega arith
 
 first-end : (xs ys : List ℕ) (zs : List ℤ) (e : ℕ) → length ys ≡ length xs → length zs ≡ length xs → e < length xs
     → getD xs e 0 ≡ getD (endsOf (edgesFrom xs ys zs)) (2 * e) 0
@@ -24,7 +18,7 @@ first-end [] ys zs e p q h = let no-way : ⊥ = omega arith in absurd no-way
 first-end (x ∷ xs) [] zs e p q h = let no-way : ⊥ = omega arith in absurd no-way
 first-end (x ∷ xs) (y ∷ ys) [] e p q h = let no-way : ⊥ = omega arith in absurd no-way
 first-end (x ∷ xs) (y ∷ ys) (z ∷ zs) zero p q h = refl
-first-end (x ∷ xs) (y ∷ ys) (z ∷ zs) (suc e) p q h = rw (two-more e) (first-end xs ys zs e (omega arith) (omega arith) (omega arith))
+first-end (x ∷ xs) (y ∷ ys) (z ∷ zs) (suc e) p q h = rw (first-next e) (first-end xs ys zs e (omega arith) (omega arith) (omega arith))
 
 second-end : (xs ys : List ℕ) (zs : List ℤ) (e : ℕ) → length ys ≡ length xs → length zs ≡ length xs → e < length xs
     → getD ys e 0 ≡ getD (endsOf (edgesFrom xs ys zs)) (2 * e + 1) 0
@@ -33,7 +27,7 @@ second-end [] ys zs e p q h = let no-way : ⊥ = omega arith in absurd no-way
 second-end (x ∷ xs) [] zs e p q h = let no-way : ⊥ = omega arith in absurd no-way
 second-end (x ∷ xs) (y ∷ ys) [] e p q h = let no-way : ⊥ = omega arith in absurd no-way
 second-end (x ∷ xs) (y ∷ ys) (z ∷ zs) zero p q h = refl
-second-end (x ∷ xs) (y ∷ ys) (z ∷ zs) (suc e) p q h = rw (three-more e) (second-end xs ys zs e (omega arith) (omega arith) (omega arith))
+second-end (x ∷ xs) (y ∷ ys) (z ∷ zs) (suc e) p q h = rw (second-next e) (second-end xs ys zs e (omega arith) (omega arith) (omega arith))
 
 -- the weights of the edges are the third list
 pub weights-lent : (xs ys : List ℕ) (zs : List ℤ) → length ys ≡ length xs → length zs ≡ length xs → weightsOf (edgesFrom xs ys zs) ≡ zs

@@ -1,3 +1,4 @@
+-- The laws of the plan call, and its two theorems.
 pub mod EndLaws
 pub mod PartLaws
 pub mod SettleLaws

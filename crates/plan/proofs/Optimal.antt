@@ -19,7 +19,7 @@ use Rattle.steps.specs.Plan.{DONE, REFUSED, Plan, cleared, planAfter, plan}
 use Rattle.steps.proofs.Accepted.{accepted, accepted-well-formed}
 use Rattle.steps.proofs.Done.{done-optimal}
 use Rattle.certificate.specs.Lists.{lent, sameLength, unequal}
-use Rattle.certificate.proofs.Loops.{keep-same}
+use Rattle.laws.proofs.Loops.{keep-same}
 use Rattle.plan.specs.View.{planOf, planLists}
 use Rattle.plan.specs.declared.answers.Answer.{Answer}
 use Rattle.plan.specs.declared.answers.Answer.the-variants as answers

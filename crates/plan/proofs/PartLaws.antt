@@ -20,9 +20,6 @@ module _ {A : Type 0} where
   pub fits : {l : List A} (k : ℕ) (v : A) (n : ℕ) → l ≡ replicate k v → n ≤ k → n ≤ length l
   fits {l} k v n e h = rw (e, length-replicate k v) h
 
-  pub part : {l : List A} (k : ℕ) (v : A) (n : ℕ) → l ≡ replicate k v → n ≤ k → n ≡ length (take n l)
-  part {l} k v n e h = sym (length-take-le n l (fits k v n e h))
-
   -- an array whose first k came back as new, by as many as were lent
   pub record Anew (k : ℕ) (new old : List A) : Type 0 where
     pub room : k ≤ length (new ++ drop k old)

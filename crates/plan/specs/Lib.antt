@@ -1,2 +1,3 @@
+-- The plan call on three lists of edges.
 pub mod View
 pub mod Lists

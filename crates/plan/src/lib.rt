@@ -1,6 +1,6 @@
 // The plan call: the pairs of greatest weight, with a certificate, or why there are none.
 ghost use mathlib.Core.Path.{_≡_};
-ghost use Prim.Native.Nat.{ℕ, _<_};
+ghost use Prim.Native.Nat.{_<_};
 ghost use lib.ListN.{length};
 ghost use Rattle.certificate.specs.Lists.{Known, Weighed, lent, room};
 ghost use Rattle.steps.specs.Plan.{planEnd, run};

@@ -1,6 +1,6 @@
 // The run of edges that are not refused, and what is answered by how it ended.
 ghost use mathlib.Core.Path.{_≡_};
-ghost use Prim.Native.Nat.{ℕ, _+_, _*_, _<_};
+ghost use Prim.Native.Nat.{_+_, _*_, _<_};
 ghost use lib.ListN.{length};
 ghost use Rattle.certificate.specs.Lists.{Known, Weighed, lent, certificateOf};
 ghost use Rattle.steps.specs.Plan.{planEnd, run as runOf};
@@ -89,7 +89,7 @@ fn run_edges(
 }
 
 // DONE where the run has ended and its certificate passes: the lists hold it then.
-pub fn settle(
+pub(crate) fn settle(
     n: u16,
     first: &[u16],
     second: &[u16],

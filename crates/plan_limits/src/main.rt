@@ -3,7 +3,6 @@
 // on both sides of every limit, document 01's table is among them, and some are recorded wrong, so that it is seen that each
 // difference is told. All is made by compare/limits/make, which knows document 01 and nothing of this code.
 ghost use mathlib.Core.Path.{_≡_};
-ghost use Prim.Native.Nat.{_≤_};
 ghost use lib.ListN.{length};
 use plan::answers::answer_number;
 use plan::answers::answer_place;

@@ -1,16 +1,15 @@
 -- The lists of the state before the first stage: arrays that hold one number throughout, of which the first n were written anew.
-use mathlib.Core.Path.{_≡_, ap, _∙_}
-use mathlib.Core.Bool.{Bool, true, false, not}
+use mathlib.Core.Path.{_≡_, _∙_}
+use mathlib.Core.Bool.{Bool, false}
 use mathlib.Core.List.{List, [], _++_}
-use Prim.Native.Nat.{ℕ, zero, suc, _+_, _*_, _<_, _≤_}
+use Prim.Native.Nat.{ℕ, zero, suc, _+_, _*_, _≤_}
 use native.Mathlib.Omega.{arith}
-use lib.Dec.{T, ltb, ltb→lt, nltb→le}
 use lib.IntN.{ℤ, pos, natAbs}
-use lib.ListN.{length, getD, take, drop, replicate, length-replicate, getD-replicate, List·getD-eq-default}
+use lib.ListN.{length, getD, take, drop, replicate, length-replicate}
 use lib.Seq.{take-at, take-take}
 use Rattle.laws.specs.Lists.{range}
 use Rattle.laws.specs.Run.{ok}
-use Rattle.laws.proofs.Lists.{length-range}
+use Rattle.laws.proofs.Lists.{length-range, getD-padded}
 use Rattle.laws.proofs.Windows.{take-replicate, take-written}
 use Rattle.matching.specs.Graph.{Edge, graphOf, missing}
 use Rattle.numbers.specs.Near.{Near}
@@ -19,21 +18,9 @@ use Rattle.numbers.proofs.PoolLaws.{pooled-empty}
 use Rattle.steps.specs.Ends.{topWeight}
 use Rattle.steps.specs.State.{opening, start}
 
--- a count of 0, read anywhere
-zero-count : (k g : ℕ) → getD {A = ℕ} (replicate k 0) g 0 ≡ 0
-zero-count k g = go (ltb g k) (ltb→lt g k) (nltb→le g k)
-  where
-    go : (t : Bool) → (T t → g < k) → (T (not t) → k ≤ g) → getD {A = ℕ} (replicate k 0) g 0 ≡ 0
-    go true f h = getD-replicate k g 0 0 (f tt)
-    go false f h = List·getD-eq-default (replicate k 0) 0 (rw (length-replicate {A = ℕ} k 0) (h tt))
-
--- the first n of such an array are n
-pub part-length : {A : Type 0} {l : List A} (k : ℕ) (v : A) (n : ℕ) → l ≡ replicate k v → n ≤ k → n ≡ length (take n l)
-part-length {l} k v n e h = rw (e, take-replicate n k v h, length-replicate n v)
-
 module _ (n : ℕ) (few : n ≤ 64) where
   pub no-rows : (pool : List ℕ) → pooled n (take n (replicate 64 0)) pool ≡ replicate (2 * n) []
-  no-rows pool = pooled-empty n (take n (replicate 64 0)) pool (λ g. rw (take-replicate {A = ℕ} n 64 0 few) (zero-count n g))
+  no-rows pool = pooled-empty n (take n (replicate 64 0)) pool (λ g. rw (take-replicate {A = ℕ} n 64 0 few) (getD-padded [] n g 0))
 
   pub first-range : (from : ℕ) (l : List ℕ) → take n (range from n ++ l) ≡ range from n
   first-range from l = take-at (range from n) l n (length-range from n)

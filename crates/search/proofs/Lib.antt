@@ -1,3 +1,4 @@
+-- The laws of the state by value, of its steps and of a run.
 pub mod Fresh
 pub mod Parts
 pub mod Opened

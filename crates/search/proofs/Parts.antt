@@ -5,7 +5,6 @@ use mathlib.Core.Bool.{true, false}
 use mathlib.Core.List.{List, _++_}
 use Prim.Native.Nat.{ℕ, _*_, _<_, _≤_}
 use native.Mathlib.Omega.{arith}
-use native.Mathlib.Nat.{le-trans, mul-le-mul-left, mul-le-mul-right}
 use lib.ListN.{length, take, drop}
 use lib.Seq.{length-take-le, take-at}
 use borrow.Author.Needs.{needs}
@@ -16,6 +15,7 @@ use Rattle.numbers.specs.Pools.{PoolFits}
 use Rattle.numbers.specs.View.{counted}
 use Rattle.numbers.specs.declared.Got.{Got}
 use Rattle.numbers.specs.declared.Got.the-variants as number
+use Rattle.numbers.proofs.PoolLaws.{pool-room}
 use Rattle.steps.specs.State.{State, Phase}
 use Rattle.steps.specs.Plan.{isEnded}
 use Rattle.whole.specs.View.{Lists, lent, Fits}
@@ -65,9 +65,6 @@ sized s v h =
       duals = search needs;
     }
 
-pub square : (n : ℕ) → n ≤ 64 → n * n ≤ 4096
-square n h = le-trans (mul-le-mul-right n h) (mul-le-mul-left 64 h)
-
 -- each array has room for the list that it holds
 pub record Room (s : Search) : Type 0 where
   pub few : s .n ≤ 64
@@ -92,7 +89,7 @@ pub record Room (s : Search) : Type 0 where
 pub room : (s : Search) → Sized s → Held s → Room s
 room s z h =
     let few : s .n ≤ 64 = h .few in
-    let p : s .n * s .n ≤ 4096 = square (s .n) few in
+    let p : s .n * s .n ≤ 4096 = pool-room (s .n) few in
     record {
       few = few;
       pool = p;

@@ -1,12 +1,11 @@
 -- A run, step by step.
 use mathlib.Core.Path.{_≡_, refl, sym, ap, _∙_}
-use mathlib.Core.Bool.{Bool, true, false, cond}
+use mathlib.Core.Bool.{Bool, true, false}
 use mathlib.Core.List.{List, [], _∷_}
 use Prim.Native.Nat.{ℕ, zero, suc, _+_, _*_, _-_, _<_, _≤_}
 use native.Mathlib.Omega.{arith}
 use native.Mathlib.Nat.{not-suc-le-zero, le-of-suc-le-suc}
-use lib.IntN.{ℤ, pos, natAbs}
-use lib.Signed.{ltZ}
+use lib.IntN.{ℤ, pos}
 use lib.ListN.{length, getD, take, drop, drop-of-length-le}
 use mir.Syntax.{w64}
 use mir.Val.{toZ, ofZ}
@@ -37,14 +36,6 @@ top-next (x ∷ xs) (suc i) h = top-next xs i (le-of-suc-le-suc h)
 pub top-none : (edges : List Edge) (i : ℕ) → length edges ≤ i → topWeight (drop i edges) ≡ pos 0
 unfolding topWeight
 top-none edges i h = rw (drop-of-length-le edges h)
-
-pub greater-near : (k : ℕ) (a b : ℤ) → natAbs a ≤ k → natAbs b ≤ k → natAbs (greater a b) ≤ k
-unfolding greater
-greater-near k a b h i = go (ltZ a b)
-  where
-    go : (t : Bool) → natAbs (cond t b a) ≤ k
-    go true = i
-    go false = h
 
 pub weight-plain : (l : List ℤ) (i : ℕ) → Near 1000000000 l → toZ w64 (ofZ w64 (getD l i (pos 0))) ≡ getD l i (pos 0)
 weight-plain l i h = toZ-ofZ w64 (getD l i (pos 0)) (fits-near (getD l i (pos 0)) (omega (arith, h .near i)))

@@ -1,7 +1,6 @@
 // Closing a stage.
 ghost use mathlib.Core.Path.{_≡_};
 ghost use mathlib.Core.List.{List};
-ghost use Prim.Native.Nat.{ℕ};
 ghost use Rattle.laws.specs.Run.{andThen};
 ghost use Rattle.matching.specs.Graph.{Edge, graphOf};
 ghost use Rattle.steps.specs.State.{closing};
@@ -24,7 +23,7 @@ fn phase_after(stage: u16, n: u16) -> Phase
 }
 
 impl Search {
-    pub fn close(self) -> Search
+    pub(crate) fn close(self) -> Search
         requires { ⌜ Held self × (phaseOf (self .phase) ≡ closing) ⌝ }
         ensures { λ r. ⌜ ((edges : List Edge) → runOf r ≡ andThen (runOf self) (closeStage (graphOf (self .n) edges))) × Kept self r ⌝ }
     {

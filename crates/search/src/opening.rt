@@ -1,7 +1,6 @@
 // Opening a stage.
 ghost use mathlib.Core.Path.{_≡_};
 ghost use mathlib.Core.List.{List};
-ghost use Prim.Native.Nat.{ℕ};
 ghost use lib.ListN.{length};
 ghost use Rattle.laws.specs.Run.{andThen};
 ghost use Rattle.matching.specs.Graph.{Edge, graphOf};
@@ -13,7 +12,7 @@ use crate::state::Search;
 use numbers::Got;
 
 impl Search {
-    pub fn open(self) -> Search
+    pub(crate) fn open(self) -> Search
         requires { ⌜ Held self × (phaseOf (self .phase) ≡ opening) ⌝ }
         ensures { λ r. ⌜ ((edges : List Edge) → length edges ≡ self .m → runOf r ≡ andThen (runOf self) (openStage (graphOf (self .n) edges))) × Kept self r ⌝ }
     {

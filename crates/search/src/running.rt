@@ -1,10 +1,9 @@
 // A run: steps from the fresh state until it has ended, the budget is spent or a step faults.
 ghost use mathlib.Core.Path.{_≡_};
 ghost use mathlib.Core.List.{List};
-ghost use Prim.Native.Nat.{ℕ, _*_, _<_, _≤_};
+ghost use Prim.Native.Nat.{_*_, _<_, _≤_};
 ghost use lib.IntN.{natAbs};
 ghost use lib.ListN.{length, take};
-ghost use Rattle.laws.specs.Integers.{greater as greaterOf};
 ghost use Rattle.matching.specs.Graph.{Edge, graphOf};
 ghost use Rattle.numbers.specs.Edges.{endsOf, weightsOf};
 ghost use Rattle.numbers.specs.Near.{Near};
@@ -17,14 +16,9 @@ ghost use Rattle.search.specs.View.{phaseOf, Held};
 use crate::state::Phase;
 use crate::state::Search;
 use clearing::copy_duals;
+use numbers::amounts::greater;
 use numbers::copy;
 use whole::Ran;
-
-fn greater(a: i64, b: i64) -> i64
-    ensures { λ r. ⌜ r ≡ greaterOf a b ⌝ }
-{
-    if a < b { b } else { a }
-}
 
 // The largest weight, or 0 where none is above it.
 fn top_weight(weights: &[i64]) -> i64

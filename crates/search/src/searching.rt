@@ -26,7 +26,7 @@ fn at_most(count: u16, limit: u16) -> u16
 }
 
 // What a step leaves besides the lists.
-pub struct Left {
+struct Left {
     pub bad: bool,
     pub queued: u16,
     pub unused: u16,
@@ -61,7 +61,7 @@ fn left_by(went: Went, over: Phase) -> Left
 
 impl Search {
     // The last node of the queue is taken, and its neighbours are visited.
-    pub fn take(self, ends: &[u16], weights: &[i64], offsets: &[u16], far: &[u16]) -> Search
+    pub(crate) fn take(self, ends: &[u16], weights: &[i64], offsets: &[u16], far: &[u16]) -> Search
         requires { ⌜ Held self × (phaseOf (self .phase) ≡ searching) × Table (self .n) (now ends) (now weights) (now offsets) (now far) × (length (now weights) ≡ self .m) ⌝ }
         ensures { λ r. ⌜ ((edges : List Edge) → endsOf edges ≡ now (ends .entry) → weightsOf edges ≡ now (weights .entry) → runOf r ≡ andThen (runOf self) (takeNode isGroup (graphOf (self .n) edges))) × Kept self r ⌝ }
     {
@@ -141,7 +141,7 @@ impl Search {
     }
 
     // The duals are adjusted, and what that allows is followed.
-    pub fn adjust(self, ends: &[u16], weights: &[i64], flag: bool) -> Search
+    pub(crate) fn adjust(self, ends: &[u16], weights: &[i64], flag: bool) -> Search
         requires { ⌜ Held self × (phaseOf (self .phase) ≡ searching) × Edged (self .n) (now ends) (now weights) × (length (now weights) ≡ self .m) ⌝ }
         ensures { λ r. ⌜ ((edges : List Edge) → endsOf edges ≡ now (ends .entry) → weightsOf edges ≡ now (weights .entry) → runOf r ≡ andThen (runOf self) (adjustDuals (graphOf (self .n) edges) flag)) × Kept self r ⌝ }
     {

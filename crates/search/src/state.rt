@@ -3,7 +3,7 @@ ghost use mathlib.Core.Path.{_≡_};
 ghost use mathlib.Core.Bool.{false};
 ghost use mathlib.Core.List.{List};
 ghost use lib.IntN.{natAbs};
-ghost use Prim.Native.Nat.{ℕ, _<_, _≤_, _+_};
+ghost use Prim.Native.Nat.{_<_, _≤_, _+_};
 ghost use lib.ListN.{length, replicate};
 ghost use Rattle.laws.specs.Lists.{range};
 ghost use Rattle.laws.specs.Run.{ok, fault};
@@ -13,18 +13,19 @@ ghost use Rattle.steps.specs.Ends.{topWeight};
 ghost use Rattle.search.specs.View.{runOf, Held, Kept};
 use clearing::all_64;
 use clearing::all_128;
+use clearing::fill_duals;
 use clearing::zeros_128;
 use numbers::MISSING;
 
 // What the next step is.
-pub enum Phase {
+pub(crate) enum Phase {
     Opening,
     Searching,
     Closing,
     Ended,
 }
 
-pub struct Search {
+pub(crate) struct Search {
     // a fault has come: no more is done
     pub bad: bool,
     pub n: u16,
@@ -70,17 +71,6 @@ fn count_up(list: &mut [u16], from: u16)
     }
 }
 
-// Each entry is x.
-fn fill(list: &mut [i64], x: i64)
-    ensures { λ _. ⌜ now (list .exit) ≡ replicate (length (now (list .entry))) x ⌝ }
-{
-    let mut i = 0;
-    while i < list.len() {
-        list[i] = x;
-        i += 1;
-    }
-}
-
 // Lists that hold one number throughout.
 fn empty_pool() -> [u16; 4096]
     ensures { λ r. ⌜ r ≡ replicate 4096 0 ⌝ }
@@ -96,7 +86,7 @@ fn none_allowed() -> [bool; 2048]
 
 impl Search {
     // The state before the first stage; top is the largest weight, or 0 where none is above it.
-    pub fn new(n: u16, m: u16, top: i64) -> Search
+    pub(crate) fn new(n: u16, m: u16, top: i64) -> Search
         requires { ⌜ (n ≤ 64) × (m ≤ 2048) × (0 < n) × (natAbs top ≤ 4503599627370496) ⌝ }
         ensures { λ r. ⌜ ((edges : List Edge) → length edges ≡ m → topWeight edges ≡ top → runOf r ≡ ok (start (graphOf n edges))) × Held r × (r .n ≡ n) × (r .m ≡ m) × (r .bad ≡ false) ⌝ }
     {
@@ -114,7 +104,7 @@ impl Search {
         count_up(&mut tops[..k], 0);
         count_up(&mut bases[..k], 0);
         count_up(&mut free[..k], n);
-        fill(&mut duals[..k], top);
+        fill_duals(&mut duals[..k], top);
         Search {
             bad: false,
             n,
@@ -143,7 +133,7 @@ impl Search {
     }
 
     // A fault has come.
-    pub fn failed(mut self) -> Search
+    pub(crate) fn failed(mut self) -> Search
         requires { ⌜ Held self ⌝ }
         ensures { λ r. ⌜ (runOf r ≡ fault) × Kept self r ⌝ }
     {

@@ -12,7 +12,7 @@ use crate::state::Phase;
 use crate::state::Search;
 
 impl Search {
-    pub fn step(
+    pub(crate) fn step(
         self,
         ends: &[u16],
         weights: &[i64],

@@ -2,7 +2,7 @@
 // beforehand. The input and the text that must come out are made by compare/site-answers, which knows document 01 and the source that
 // decides the pairs, and nothing of this code.
 ghost use mathlib.Core.Path.{_≡_};
-ghost use Prim.Native.Nat.{ℕ, _<_};
+ghost use Prim.Native.Nat.{_<_};
 ghost use lib.ListN.{length};
 use libc::STDIN_FILENO;
 use libc::STDOUT_FILENO;

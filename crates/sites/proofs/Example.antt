@@ -1,10 +1,10 @@
 -- Document 01's example: the printed bytes of its bytes.
-use mathlib.Core.Path.{_≡_, refl, sym, ap, _∙_}
+use mathlib.Core.Path.{_≡_, refl, ap, _∙_}
 use mathlib.Core.Bool.{false}
 use mathlib.Core.List.{List}
 use Prim.Native.Nat.{ℕ}
 use Rattle.steps.specs.Table.{path}
-use Rattle.records.specs.Site.{Outcome, read, readSite}
+use Rattle.records.specs.Site.{read, readSite}
 use Rattle.records.proofs.Worked.{example, reads, example-reads}
 use Rattle.printed.proofs.Example.{text, prints, example-prints}
 use Rattle.sites.specs.Answered.{planOfSite, answeredAs, answered}

@@ -2,7 +2,7 @@
 use mathlib.Core.Path.{_≡_, refl, sym, ap, subst, _∙_}
 use mathlib.Core.Bool.{Bool, true, false}
 use mathlib.Core.List.{List, [], _∷_, _++_, map}
-use Prim.Native.Nat.{ℕ, zero, suc, _+_, _*_, _-_, _≤_, min}
+use Prim.Native.Nat.{ℕ, suc, _+_, _-_, _≤_, min}
 use native.Mathlib.Omega.{arith}
 use lib.Dec.{T, eqb}
 use lib.IntN.{ℤ, pos}
@@ -11,10 +11,8 @@ use lib.Seq.{take-append-seam}
 use borrow.Author.Tests.{eq-eqb}
 use Rattle.laws.specs.Run.{if_then_else_}
 use Rattle.laws.proofs.Windows.{drop-replicate}
-use Rattle.matching.specs.Graph.{Edge, graphOf, edgesFrom}
-use Rattle.steps.specs.Refusals.{maxNodes, maxEdges}
-use Rattle.steps.specs.Plan.{Plan, plan}
-use Rattle.certificate.specs.Lists.{lent, room, sameLength}
+use Rattle.matching.specs.Graph.{Edge, edgesFrom}
+use Rattle.certificate.specs.Lists.{room, sameLength}
 use Rattle.records.specs.Site as site
 use Rattle.records.specs.View.{complaintOf}
 use Rattle.records.specs.WholeView.{padded, toldBy, ReadAs}
@@ -22,7 +20,7 @@ use Rattle.records.specs.declared.records.Complaint.{Complaint}
 use Rattle.records.specs.declared.whole.Head.{Head}
 use Rattle.records.specs.declared.whole.Site.{Site}
 use Rattle.records.specs.declared.whole.Site.the-variants as answer
-use Rattle.printed.specs.Answer.{printed, printedComplaint}
+use Rattle.printed.specs.Answer.{printedComplaint}
 use Rattle.printed.specs.View.{Put}
 use Rattle.sites.specs.Answered.{planOfSite, answeredAs, answered}
 use Rattle.plan.specs.View.{planLists}

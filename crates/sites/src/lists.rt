@@ -3,7 +3,7 @@ ghost use mathlib.Core.Path.{_≡_};
 ghost use lib.ListN.{length, replicate};
 
 // All bytes 0.
-pub fn clear(out: &mut [u8])
+pub(crate) fn clear(out: &mut [u8])
     ensures { λ r. ⌜ now (out .exit) ≡ replicate (length (now (out .entry))) 0 ⌝ }
 {
     for k in 0..out.len() {

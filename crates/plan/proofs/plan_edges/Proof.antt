@@ -6,9 +6,10 @@ use denote.Ref.{now}
 use lib.IntN.{pos}
 use lib.ListN.{length}
 use lib.Seq.{length-take-le}
+use Rattle.laws.proofs.Windows.{part-length}
 use Rattle.certificate.specs.Lists.{room, certificateOf}
 use Rattle.plan.proofs.FillLaws.{stays-cleared, is-filled}
-use Rattle.plan.proofs.PartLaws.{Anew, anew, fits, part}
+use Rattle.plan.proofs.PartLaws.{Anew, anew, fits}
 use Rattle.plan.proofs.plan_edges.Statement.{statement}
 use Rattle.plan.proofs.plan_edges.Tie as tie
 use Rattle.plan.proofs.plan_edges.Reads as reads
@@ -24,19 +25,19 @@ slice-aggregate-settle : tie.Need-slice-aggregate-settle
 slice-aggregate-settle c =
     let at-all-64 = c .before .before .before .all-64 in
     let start = c .before .before .before .before .before .before .before .before in
-    part 64 65535 _ (at-all-64 .ensures) (start .pre .0 .few-nodes)
+    part-length 64 65535 _ (at-all-64 .ensures) (start .pre .0 .few-nodes)
 
 slice-aggregate-settle-2 : tie.Need-slice-aggregate-settle-2
 slice-aggregate-settle-2 c =
     let at-zeros-128 = c .before .before .before .zeros-128 in
     let start = c .before .before .before .before .before .before .before .before .before in
-    part 128 (pos 0) _ (at-zeros-128 .ensures) (omega (arith, start .pre .0 .few-nodes))
+    part-length 128 (pos 0) _ (at-zeros-128 .ensures) (omega (arith, start .pre .0 .few-nodes))
 
 slice-aggregate-settle-3 : tie.Need-slice-aggregate-settle-3
 slice-aggregate-settle-3 c =
     let at-all-128 = c .before .before .before .all-128 in
     let start = c .before .before .before .before .before .before .before .before .before .before in
-    part 128 65535 _ (at-all-128 .ensures) (omega (arith, start .pre .0 .few-nodes))
+    part-length 128 65535 _ (at-all-128 .ensures) (omega (arith, start .pre .0 .few-nodes))
 
 settle-requires : tie.Need-settle-requires
 settle-requires c κs =
@@ -47,9 +48,9 @@ settle-requires c κs =
       start .pre .0,
       start .pre .1,
       start .pre .2,
-      sym (part 64 65535 _ (at-all-64 .ensures) (start .pre .0 .few-nodes)),
-      sym (part 128 (pos 0) _ (at-zeros-128 .ensures) (omega (arith, start .pre .0 .few-nodes))),
-      sym (part 128 65535 _ (at-all-128 .ensures) (omega (arith, start .pre .0 .few-nodes))),
+      sym (part-length 64 65535 _ (at-all-64 .ensures) (start .pre .0 .few-nodes)),
+      sym (part-length 128 (pos 0) _ (at-zeros-128 .ensures) (omega (arith, start .pre .0 .few-nodes))),
+      sym (part-length 128 65535 _ (at-all-128 .ensures) (omega (arith, start .pre .0 .few-nodes))),
     )
 
 returns : tie.Need-returns

@@ -1,7 +1,7 @@
 use borrow.Author.Needs.{needs}
 use mathlib.Core.Path.{sym}
 use native.Mathlib.Omega.{arith}
-use Rattle.plan.proofs.PartLaws.{part}
+use Rattle.laws.proofs.Windows.{part-length}
 use Rattle.plan.proofs.settle.run_edges.Statement.{statement}
 use Rattle.plan.proofs.settle.run_edges.Tie as tie
 use Rattle.plan.proofs.settle.run_edges.Reads as reads
@@ -14,19 +14,19 @@ slice-aggregate-run-over : tie.Need-slice-aggregate-run-over
 slice-aggregate-run-over c =
     let at-zeros-4096 = c .before .before .before .zeros-4096 in
     let start = c .before .before .before .before .before .before .before .before in
-    part 4096 0 _ (at-zeros-4096 .ensures) (omega (arith, start .pre .0 .few-edges))
+    part-length 4096 0 _ (at-zeros-4096 .ensures) (omega (arith, start .pre .0 .few-edges))
 
 slice-aggregate-run-over-2 : tie.Need-slice-aggregate-run-over-2
 slice-aggregate-run-over-2 c =
     let at-zeros-65 = c .before .before .before .zeros-65 in
     let start = c .before .before .before .before .before .before .before .before .before in
-    part 65 0 _ (at-zeros-65 .ensures) (omega (arith, start .pre .0 .few-nodes))
+    part-length 65 0 _ (at-zeros-65 .ensures) (omega (arith, start .pre .0 .few-nodes))
 
 slice-aggregate-run-over-3 : tie.Need-slice-aggregate-run-over-3
 slice-aggregate-run-over-3 c =
     let at-zeros-40962 = c .before .before .before .zeros-40962 in
     let start = c .before .before .before .before .before .before .before .before .before .before in
-    part 4096 0 _ (at-zeros-40962 .ensures) (omega (arith, start .pre .0 .few-edges))
+    part-length 4096 0 _ (at-zeros-40962 .ensures) (omega (arith, start .pre .0 .few-edges))
 
 run-over-requires : tie.Need-run-over-requires
 run-over-requires c κs =
@@ -37,9 +37,9 @@ run-over-requires c κs =
       start .pre .0,
       start .pre .1,
       start .pre .2,
-      sym (part 4096 0 _ (at-zeros-4096 .ensures) (omega (arith, start .pre .0 .few-edges))),
-      sym (part 65 0 _ (at-zeros-65 .ensures) (omega (arith, start .pre .0 .few-nodes))),
-      sym (part 4096 0 _ (at-zeros-40962 .ensures) (omega (arith, start .pre .0 .few-edges))),
+      sym (part-length 4096 0 _ (at-zeros-4096 .ensures) (omega (arith, start .pre .0 .few-edges))),
+      sym (part-length 65 0 _ (at-zeros-65 .ensures) (omega (arith, start .pre .0 .few-nodes))),
+      sym (part-length 4096 0 _ (at-zeros-40962 .ensures) (omega (arith, start .pre .0 .few-edges))),
       start .pre .3,
       start .pre .4,
       start .pre .5,

@@ -1,20 +1,21 @@
 use borrow.Author.Needs.{needs}
-use mathlib.Core.Path.{_≡_, refl, sym, ap, ap₂, _∙_}
+use mathlib.Core.Path.{_≡_, sym, ap, ap₂, _∙_}
 use mathlib.Core.List.{List}
 use native.Mathlib.Omega.{arith}
-use Prim.Native.Nat.{ℕ, suc, _+_, _-_, _<_, _≤_}
+use Prim.Native.Nat.{ℕ, suc, _-_, _≤_}
 use denote.Ref.{now}
 use lib.IntN.{ℤ, pos, natAbs}
 use lib.ListN.{length, getD, drop}
 use mir.Syntax.{w64}
 use mir.Val.{toZ, ofZ}
 use mir.ValLaws.{toZ-ofZ}
+use Rattle.laws.proofs.Integers.{greater-near}
 use Rattle.laws.specs.Integers.{greater}
 use Rattle.matching.specs.Graph.{Edge}
 use Rattle.numbers.specs.Edges.{weightsOf}
 use Rattle.numbers.proofs.EdgeLaws.{length-weightsOf}
 use Rattle.steps.specs.Ends.{topWeight}
-use Rattle.search.proofs.Ran.{top-next, top-none, greater-near, weight-plain}
+use Rattle.search.proofs.Ran.{top-next, top-none, weight-plain}
 use Rattle.search.proofs.running.top_weight.Statement.{statement}
 use Rattle.search.proofs.running.top_weight.Tie as tie
 

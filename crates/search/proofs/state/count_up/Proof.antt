@@ -33,7 +33,7 @@ count-up-spec =
     (λ c. let a = c .before .before .args in let l = c .before .loop in
     let new : List ℕ = range (a .from) (length (now (a .list))) in
     let e : length new ≡ length (now (a .list)) = length-range (a .from) (length (now (a .list))) in
-    let x : l .x ≡ getD new (l .i) 0 = l .inv .1 ∙ sym (getD-range (a .from) (length (now (a .list))) (l .i) (omega arith)) in (
+    let x : l .x ≡ getD new (l .i) 0 = l .inv .1 ∙ sym (getD-range (a .from) (length (now (a .list))) (l .i) 0 (omega arith)) in (
       omega arith,
       omega arith,
       length-set (l .list) (l .i) (l .x) ∙ l .inv .2,

@@ -1,11 +1,11 @@
 use borrow.Author.Needs.{needs}
-use mathlib.Core.Path.{_≡_, refl, sym, ap, _∙_}
-use mathlib.Core.List.{_++_, append-nil}
+use mathlib.Core.Path.{_≡_, refl, _∙_}
+use mathlib.Core.List.{_++_}
 use Prim.Native.Nat.{_-_, _≤_}
 use native.Mathlib.Omega.{arith}
-use borrow.Author.Fill.{fill-more}
 use denote.Ref.{now}
-use lib.ListN.{length, drop, replicate, length-set, drop-of-length-le}
+use lib.ListN.{length, drop, replicate, length-set}
+use Rattle.laws.proofs.Windows.{fill-more, fill-all}
 use Rattle.sites.proofs.lists.clear.Statement.{statement}
 use Rattle.sites.proofs.lists.clear.Tie as tie
 use Rattle.sites.proofs.lists.clear.Reads as reads
@@ -29,8 +29,7 @@ clear-spec =
     (λ c. search needs)
     (λ c. search needs)
     (λ c. let a = c .before .before .args in let l = c .before .loop in
-    (search needs, simp length-set (l .inv .1), l .inv .2, rw (l .inv .3) (fill-more (l .k) 0 (now (a .out)) (omega arith))))
+    (search needs, simp length-set (l .inv .1), l .inv .2, rw (l .inv .3) (fill-more (now (a .out)) 0 (l .k) (omega arith))))
     (λ c. search needs)
     (λ c. let a = c .before .before .args in let l = c .before .loop in
-    let e : l .k ≡ length (now (a .out)) = omega arith in
-    l .inv .3 ∙ rw (e, drop-of-length-le (now (a .out)) {i = length (now (a .out))} (omega arith)) (append-nil (replicate (length (now (a .out))) 0))))
+    l .inv .3 ∙ fill-all (now (a .out)) 0 (l .k) (omega arith)))

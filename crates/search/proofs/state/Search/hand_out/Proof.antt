@@ -1,5 +1,5 @@
 use borrow.Author.Needs.{needs}
-use mathlib.Core.Path.{_≡_, refl, sym, ap, _∙_}
+use mathlib.Core.Path.{sym, _∙_}
 use Rattle.search.proofs.Parts.{Room, room, sized, part}
 use Rattle.search.proofs.state.Search.hand_out.Statement.{statement}
 use Rattle.search.proofs.state.Search.hand_out.Tie as tie

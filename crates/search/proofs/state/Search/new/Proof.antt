@@ -5,14 +5,14 @@ use mathlib.Core.List.{List, [], _++_}
 use native.Mathlib.Omega.{arith}
 use Prim.Native.Nat.{ℕ, _*_, _≤_}
 use lib.IntN.{ℤ, pos}
-use lib.ListN.{length, take, drop, replicate}
+use lib.ListN.{take, drop, replicate}
 use mir.Syntax.{w64}
 use mir.Val.{toZ, ofZ}
 use mir.ValLaws.{toZ-ofZ}
 use Rattle.laws.specs.Lists.{range}
 use Rattle.numbers.specs.Pools.{pooled}
-use Rattle.laws.proofs.Windows.{take-replicate}
-use Rattle.search.proofs.Fresh.{part-length, no-rows, first-range, first-bases, first-duals, first-free, first-near, fresh-lists}
+use Rattle.laws.proofs.Windows.{take-replicate, part-length}
+use Rattle.search.proofs.Fresh.{no-rows, first-range, first-bases, first-duals, first-free, first-near, fresh-lists}
 use Rattle.search.proofs.state.Search.new.Statement.{statement}
 use Rattle.search.proofs.state.Search.new.Tie as tie
 
@@ -34,8 +34,8 @@ slice-aggregate-count-up-3 c = part-length 64 0 (c .before .before .before .befo
 count-up-requires-3 : tie.Need-count-up-requires-3
 count-up-requires-3 c κs = omega (arith, c .before .before .before .before .before .before .before .before .before .before .before .before .before .before .before .before .before .pre .0, part-length 64 0 (c .before .before .before .before .before .before .before .before .before .before .before .before .before .before .before .before .before .args .n) (c .before .before .before .before .before .before .before .before .before .before .before .before .before .before .all-642 .ensures) (omega (arith, c .before .before .before .before .before .before .before .before .before .before .before .before .before .before .before .before .before .pre .0)))
 
-slice-aggregate-fill : tie.Need-slice-aggregate-fill
-slice-aggregate-fill c = part-length 128 (pos 0) (c .before .before .before .before .before .before .before .before .before .before .before .before .before .before .before .before .before .before .before .before .args .n) (c .before .before .before .before .before .before .before .before .before .before .before .before .before .before .before .before .zeros-128 .ensures) (omega (arith, c .before .before .before .before .before .before .before .before .before .before .before .before .before .before .before .before .before .before .before .before .pre .0))
+slice-aggregate-fill-duals : tie.Need-slice-aggregate-fill-duals
+slice-aggregate-fill-duals c = part-length 128 (pos 0) (c .before .before .before .before .before .before .before .before .before .before .before .before .before .before .before .before .before .before .before .before .args .n) (c .before .before .before .before .before .before .before .before .before .before .before .before .before .before .before .before .zeros-128 .ensures) (omega (arith, c .before .before .before .before .before .before .before .before .before .before .before .before .before .before .before .before .before .before .before .before .pre .0))
 
 returns : tie.Need-returns
 returns c =
@@ -44,10 +44,10 @@ returns c =
     let tops : c .before .before .before .before .before .before .before .before .before .before .count-up .last .0 ≡ range 0 (c .before .before .before .before .before .before .before .before .before .before .before .before .before .before .before .before .before .before .before .before .before .before .args .n) = c .before .before .before .before .before .before .before .before .before .before .count-up .ensures ∙ ap (range 0) (sym (part-length 64 0 (c .before .before .before .before .before .before .before .before .before .before .before .before .before .before .before .before .before .before .before .before .before .before .args .n) (c .before .before .before .before .before .before .before .before .before .before .before .before .before .before .before .before .before .before .before .before .before .all-64 .ensures) (omega (arith, c .before .before .before .before .before .before .before .before .before .before .before .before .before .before .before .before .before .before .before .before .before .before .pre .0)))) in
     let bases : c .before .before .before .before .before .before .before .count-up2 .last .0 ≡ range 0 (c .before .before .before .before .before .before .before .before .before .before .before .before .before .before .before .before .before .before .before .before .before .before .args .n) = c .before .before .before .before .before .before .before .count-up2 .ensures ∙ ap (range 0) (sym (part-length 128 65535 (c .before .before .before .before .before .before .before .before .before .before .before .before .before .before .before .before .before .before .before .before .before .before .args .n) (c .before .before .before .before .before .before .before .before .before .before .before .before .before .before .before .before .before .before .before .before .all-128 .ensures) (omega (arith, c .before .before .before .before .before .before .before .before .before .before .before .before .before .before .before .before .before .before .before .before .before .before .pre .0)))) in
     let free : c .before .before .before .before .count-up3 .last .0 ≡ range n (c .before .before .before .before .before .before .before .before .before .before .before .before .before .before .before .before .before .before .before .before .before .before .args .n) = c .before .before .before .before .count-up3 .ensures ∙ ap (range n) (sym (part-length 64 0 (c .before .before .before .before .before .before .before .before .before .before .before .before .before .before .before .before .before .before .before .before .before .before .args .n) (c .before .before .before .before .before .before .before .before .before .before .before .before .before .before .before .before .before .before .before .all-642 .ensures) (omega (arith, c .before .before .before .before .before .before .before .before .before .before .before .before .before .before .before .before .before .before .before .before .before .before .pre .0)))) in
-    let duals : c .before .fill .last .0 ≡ replicate n (c .before .before .before .before .before .before .before .before .before .before .before .before .before .before .before .before .before .before .before .before .before .before .args .top) = c .before .fill .ensures ∙ ap (λ (k : ℕ). replicate k (toZ w64 (ofZ w64 (c .before .before .before .before .before .before .before .before .before .before .before .before .before .before .before .before .before .before .before .before .before .before .args .top)))) (sym (part-length 128 (pos 0) n (c .before .before .before .before .before .before .before .before .before .before .before .before .before .before .before .before .before .before .zeros-128 .ensures) (omega (arith, few)))) ∙ ap (replicate n) (toZ-ofZ w64 (c .before .before .before .before .before .before .before .before .before .before .before .before .before .before .before .before .before .before .before .before .before .before .args .top) (c .before .before .before .before .before .before .before .before .before .before .before .before .before .before .before .before .before .before .before .before .before .before .fits .top)) in
+    let duals : c .before .fill-duals .last .0 ≡ replicate n (c .before .before .before .before .before .before .before .before .before .before .before .before .before .before .before .before .before .before .before .before .before .before .args .top) = c .before .fill-duals .ensures ∙ ap (λ (k : ℕ). replicate k (toZ w64 (ofZ w64 (c .before .before .before .before .before .before .before .before .before .before .before .before .before .before .before .before .before .before .before .before .before .before .args .top)))) (sym (part-length 128 (pos 0) n (c .before .before .before .before .before .before .before .before .before .before .before .before .before .before .before .before .before .before .zeros-128 .ensures) (omega (arith, few)))) ∙ ap (replicate n) (toZ-ofZ w64 (c .before .before .before .before .before .before .before .before .before .before .before .before .before .before .before .before .before .before .before .before .before .before .args .top) (c .before .before .before .before .before .before .before .before .before .before .before .before .before .before .before .before .before .before .before .before .before .before .fits .top)) in
     let nothing : take (2 * n) (c .before .before .before .before .before .before .before .before .before .before .before .before .before .before .before .before .before .all-1282 .result) ≡ replicate (2 * n) 65535 = ap (take (2 * n)) (c .before .before .before .before .before .before .before .before .before .before .before .before .before .before .before .before .before .all-1282 .ensures) ∙ take-replicate (2 * n) 128 65535 (omega (arith, few)) in
     let no-row : (pool : List ℕ) → pooled n (take n (c .before .before .before .before .before .before .before .before .before .before .before .before .before .before .before .all-643 .result)) pool ≡ replicate (2 * n) [] = λ pool. ap (λ (l : List ℕ). pooled n (take n l) pool) (c .before .before .before .before .before .before .before .before .before .before .before .before .before .before .before .all-643 .ensures) ∙ no-rows n few pool in
-    let all-duals : take (2 * n) (c .before .fill .last .0 ++ drop n (c .before .before .before .before .before .before .before .before .before .before .before .before .before .before .before .before .before .before .zeros-128 .result)) ≡ replicate n (c .before .before .before .before .before .before .before .before .before .before .before .before .before .before .before .before .before .before .before .before .before .before .args .top) ++ replicate n (pos 0) = ap₂ (λ (l m : List ℤ). take (2 * n) (l ++ drop n m)) duals (c .before .before .before .before .before .before .before .before .before .before .before .before .before .before .before .before .before .before .zeros-128 .ensures) ∙ first-duals n few (c .before .before .before .before .before .before .before .before .before .before .before .before .before .before .before .before .before .before .before .before .before .before .args .top) in (
+    let all-duals : take (2 * n) (c .before .fill-duals .last .0 ++ drop n (c .before .before .before .before .before .before .before .before .before .before .before .before .before .before .before .before .before .before .zeros-128 .result)) ≡ replicate n (c .before .before .before .before .before .before .before .before .before .before .before .before .before .before .before .before .before .before .before .before .before .before .args .top) ++ replicate n (pos 0) = ap₂ (λ (l m : List ℤ). take (2 * n) (l ++ drop n m)) duals (c .before .before .before .before .before .before .before .before .before .before .before .before .before .before .before .before .before .before .zeros-128 .ensures) ∙ first-duals n few (c .before .before .before .before .before .before .before .before .before .before .before .before .before .before .before .before .before .before .before .before .before .before .args .top) in (
       λ edges l t. fresh-lists edges n
           (ap (λ (l : List ℕ). take n (l ++ drop n (c .before .before .before .before .before .before .before .before .before .before .before .before .before .before .before .before .before .before .before .before .before .all-64 .result))) tops ∙ first-range n few 0 (drop n (c .before .before .before .before .before .before .before .before .before .before .before .before .before .before .before .before .before .before .before .before .before .all-64 .result)))
           nothing
@@ -93,6 +93,6 @@ new-spec =
     slice-aggregate-count-up-3
     count-up-requires-3
     (λ c. search needs)
-    slice-aggregate-fill
+    slice-aggregate-fill-duals
     (λ c κs. search needs)
     returns)
