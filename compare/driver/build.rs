@@ -1,4 +1,4 @@
-//! Links the archive, which `rt staticlib lotamife` makes, and for `bench` the call of LEMON.
+//! Links the archive, which `compare/archive` makes, and for `bench` the call of LEMON.
 //! LOTAMIFE_LIB names another folder that the archive is taken from.
 
 use std::path::Path;

@@ -17,7 +17,7 @@ use grouping::trace::trace;
 use numbers::{Edge, Got, GotGroup, Group, MISSING, Node, group_in};
 
 // The outermost groups of the base and of an edge's two nodes.
-#[derive(Drop)]
+#[derive(Clone, Copy)]
 enum Met {
     At(Group, Group, Group),
     Out,
@@ -44,7 +44,7 @@ fn meeting(ends: &[u16], tops: &[u16], base: Node, e: Edge) -> Met
 }
 
 // The base's child of a ring, and how many children it has.
-#[derive(Drop)]
+#[derive(Clone, Copy)]
 pub(crate) enum Ringed {
     At(Group, u16),
     Out,

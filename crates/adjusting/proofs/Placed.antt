@@ -1,4 +1,5 @@
 -- An amount of type 4 is that of a group: its number is n or more.
+use Rattle.std.specs.Prelude.{if◌then◌else◌}
 use mathlib.Core.Path.{◌≡◌, sym, ◌∙◌}
 use mathlib.Core.Bool.{Bool, true, false, not, ◌&&◌}
 use Prim.Native.Nat.{ℕ, suc, ◌*◌, ◌≤◌}
@@ -7,7 +8,7 @@ use lib.Dec.{eqb}
 use lib.IntN.{ℤ}
 use lib.ListN.{take}
 use Rattle.laws.specs.Integers.{is_even, half}
-use Rattle.laws.specs.Run.{if◌then◌else◌, must, at}
+use Rattle.laws.specs.Run.{must, at}
 use Rattle.laws.proofs.Kept.{Kept, kept, kept_bind, kept_ok, kept_if, kept_only_if, kept_for_range}
 use Rattle.laws.proofs.Keeping.{skip}
 use Rattle.matching.specs.Graph.{Graph, is_missing}

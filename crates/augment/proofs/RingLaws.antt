@@ -1,4 +1,5 @@
 -- Laws of the places in a ring, in the form of the code's tests.
+use Rattle.std.specs.Prelude.{if◌then◌else◌}
 use mathlib.Core.Path.{◌≡◌, refl, sym, ap, ◌∙◌}
 use mathlib.Core.Bool.{Bool, true, false}
 use mathlib.Core.List.{List, [], ◌∷◌, ◌++◌, append_assoc}
@@ -11,7 +12,7 @@ use lib.ListN.{length, get_or, take, drop, drop_of_length-le, length-append, len
 use lib.Seq.{slice, drop-cons, length-slice, length-take-le}
 use Rattle.laws.specs.Lists.{flipped}
 use Rattle.laws.specs.Rows.{row_of}
-use Rattle.laws.specs.Run.{Run, ok, fault, and_then, if◌then◌else◌, at, position_from, position}
+use Rattle.laws.specs.Run.{Run, ok, fault, and_then, at, position_from, position}
 use Rattle.laws.proofs.Flips.{parts, flipped_thrice}
 use Rattle.laws.proofs.Runs.{not_ok, ok_inj}
 use Rattle.laws.proofs.Rows.{at_row_of, row_of_length, row_of_at, row_whole}

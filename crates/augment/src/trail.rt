@@ -19,7 +19,7 @@ use numbers::{
 };
 
 // One move along the path: the next node to match and the end to match it by, or the root is reached.
-#[derive(Drop)]
+#[derive(Clone, Copy)]
 enum Move {
     On(Node, End),
     Over,
@@ -27,7 +27,7 @@ enum Move {
 }
 
 // A label-2 group, the end through which it was reached, and that edge's two nodes: the far one, and the near one in the group.
-#[derive(Drop)]
+#[derive(Clone, Copy)]
 enum Way {
     To(Group, End, Node, Node),
     Out,

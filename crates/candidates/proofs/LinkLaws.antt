@@ -1,4 +1,5 @@
 -- Laws of the links: an edge considered, by the group that it leads to; a link inserted, by its place; the places after it.
+use Rattle.std.specs.Prelude.{if◌then◌else◌}
 use mathlib.Core.Path.{◌≡◌, refl, sym, ap, subst, ◌∙◌}
 use mathlib.Core.Bool.{Bool, true, false, not}
 use mathlib.Core.Logic.{◌≢◌, ⊎_elim}
@@ -12,7 +13,7 @@ use lib.Dec.{eqb, leb}
 use lib.IntN.{ℤ}
 use lib.ListN.{length, get_or, set, take, length-take, length-map, length-append, length-set, get_or-map}
 use lib.Seq.{get_or-set_same, get_or-set_other, get_or-take, take-suc-set, map-set_same}
-use Rattle.laws.specs.Run.{Run, ok, fault, and_then, ◌>>=◌, if◌then◌else◌, only_if, must, at, position, position_from}
+use Rattle.laws.specs.Run.{Run, ok, fault, and_then, ◌>>=◌, only_if, must, at, position, position_from}
 use Rattle.laws.proofs.Runs.{not_ok, ok_inj}
 use Rattle.laws.proofs.Times.{same_or_not, less_or_not}
 use Rattle.laws.proofs.Windows.{take_set, at_value}

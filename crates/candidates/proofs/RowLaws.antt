@@ -1,4 +1,5 @@
 -- Laws of the rows that hold a group's own candidates, and of the nodes of a group.
+use Rattle.std.specs.Prelude.{if◌then◌else◌}
 use mathlib.Core.Path.{◌≡◌, refl, sym, ap, ◌∙◌}
 use mathlib.Core.Bool.{Bool, true, false, not}
 use mathlib.Core.Logic.{◌≢◌, ⊎_elim}
@@ -11,7 +12,7 @@ use lib.ListN.{length, get_or, set, take, drop, length-take}
 use lib.Seq.{take-take, take_all, take_at, drop_at, drop-drop, length-take-le, get_or-set_same, get_or-set_other, sets, sets-eq}
 use Rattle.laws.specs.Lists.{Each}
 use Rattle.laws.specs.Rows.{row_of, places}
-use Rattle.laws.specs.Run.{Run, ok, fault, ◌>>=◌, if◌then◌else◌, for_each, at, put, push}
+use Rattle.laws.specs.Run.{Run, ok, fault, ◌>>=◌, for_each, at, put, push}
 use Rattle.laws.proofs.Rows.{length_rows, put_rows, places_other}
 use Rattle.laws.proofs.Kept.{Kept, kept, torn, kept_bind, kept_for_each}
 use Rattle.laws.proofs.Windows.{put_in, put_out}

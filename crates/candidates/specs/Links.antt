@@ -1,7 +1,7 @@
 -- The links kept so far as the code holds them: only the edges, since the group that an edge leads to is read from the outermost
 -- groups; and for each group its place among them, or missing.
-use Rattle.std.specs.Prelude.{◌≡◌, List, map, ℕ, ◌+◌, ◌*◌, ◌<◌, ◌≤◌, eqb, leb, ℤ, length, get_or, take}
-use Rattle.laws.specs.Run.{Run, ok, ◌>>=◌, if◌then◌else◌, must, at, position}
+use Rattle.std.specs.Prelude.{if◌then◌else◌, ◌≡◌, List, map, ℕ, ◌+◌, ◌*◌, ◌<◌, ◌≤◌, eqb, leb, ℤ, length, get_or, take}
+use Rattle.laws.specs.Run.{Run, ok, ◌>>=◌, must, at, position}
 use Rattle.matching.specs.Graph.{Edge, Graph, graph_of}
 use Rattle.numbers.specs.Edges.{ends_of, weights_of}
 use Rattle.numbers.specs.Near.{Near}

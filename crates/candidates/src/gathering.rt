@@ -190,7 +190,7 @@ fn consider_leaves(
 }
 
 // A group's own candidates: where they begin in the lists and how many there are.
-#[derive(Drop)]
+#[derive(Clone, Copy)]
 enum Own {
     Some(usize, usize),
     None,

@@ -1,6 +1,6 @@
 // One edge at a time: where it leads, and whether it takes the place of the edge kept for that group.
-ghost use Rattle.std.specs.Prelude.{◌≡◌, List, map, ℕ, ◌+◌, ◌*◌, ◌<◌, ◌≤◌, length, get_or, set, take};
-ghost use Rattle.laws.specs.Run.{ok, and_then, if◌then◌else◌};
+ghost use Rattle.std.specs.Prelude.{if◌then◌else◌, ◌≡◌, List, map, ℕ, ◌+◌, ◌*◌, ◌<◌, ◌≤◌, length, get_or, set, take};
+ghost use Rattle.laws.specs.Run.{ok, and_then};
 ghost use Rattle.matching.specs.Graph.{Edge as EdgeOf, Graph, graph_of};
 ghost use Rattle.numbers.specs.View.{Agrees, got_group};
 ghost use Rattle.numbers.specs.Edges.{ends_of, weights_of};

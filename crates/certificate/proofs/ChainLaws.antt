@@ -1,5 +1,6 @@
 -- Chains: a group contains a node exactly if it stands in the node's chain; no group stands in a chain twice; two chains that share a
 -- group share all from it to the top. So what is common of two chains is found from the top, and its duals are the sum over all groups.
+use Rattle.std.specs.Prelude.{if◌then◌else◌}
 use mathlib.Core.Path.{◌≡◌, refl, sym, ap, subst, ◌∙◌}
 use mathlib.Core.Bool.{Bool, true, false, not, ◌&&◌, ◌||◌}
 use mathlib.Core.Logic.{◌≢◌, ◌⊎◌, inl, inr, ⊎_elim}
@@ -14,7 +15,6 @@ use lib.IntN.{ℤ, pos, ◌+ℤ◌, +ℤ_idl, +ℤ_comm, +ℤ_assoc}
 use lib.ListN.{length, get_or, drop, length-append, length-drop}
 use lib.Seq.{drop-append-le, get_or-append-add}
 use Rattle.laws.specs.Lists.{Each, member, range, total}
-use Rattle.laws.specs.Run.{if◌then◌else◌}
 use Rattle.laws.proofs.Lists.{each_at}
 use Rattle.matching.specs.Graph.{missing, is_missing}
 use Rattle.matching.specs.Certificate.{parent_of, dual_of, meets}

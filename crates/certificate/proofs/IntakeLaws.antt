@@ -1,4 +1,5 @@
 -- The edges of three lists, one after the other: the first that is refused, or none.
+use Rattle.std.specs.Prelude.{if◌then◌else◌}
 use mathlib.Core.Path.{◌≡◌, refl, ap, ◌∙◌}
 use mathlib.Core.Bool.{Bool, true, false}
 use mathlib.Core.List.{List, [], ◌∷◌}
@@ -11,7 +12,6 @@ use lib.Ieee.Fits.{and_l, and_r}
 use lib.IntN.{ℤ, pos}
 use lib.ListN.{length, get_or, drop, drop_of_length-le}
 use lib.Seq.{drop-cons}
-use Rattle.laws.specs.Run.{if◌then◌else◌}
 use Rattle.matching.specs.Graph.{Edge, edge, edges_from}
 use Rattle.steps.specs.Refusals.{Refusal, NODES, EDGES, BUFFER, Intake, fine, refused, Room, edge_intake, edges_intake, too_short, intake}
 use Rattle.certificate.specs.Lists.{same_length, unequal, intake_lists}

@@ -1,4 +1,5 @@
 -- From what each function answers to the verdict, and from the verdict to the check call.
+use Rattle.std.specs.Prelude.{if◌then◌else◌}
 use mathlib.Core.Path.{◌≡◌, refl, sym, subst, ◌∙◌}
 use mathlib.Core.Bool.{Bool, true, false, ◌&&◌, ◌||◌}
 use mathlib.Core.List.{List, [], ◌∷◌}
@@ -9,7 +10,6 @@ use lib.Ieee.Fits.{and_l, and_r}
 use lib.IntN.{ℤ, pos}
 use lib.ListN.{length, get_or}
 use Rattle.laws.specs.Lists.{all, keep, range}
-use Rattle.laws.specs.Run.{if◌then◌else◌}
 use Rattle.laws.proofs.Lists.{each_at}
 use Rattle.matching.specs.Graph.{Graph, Edge, edge, edges_from, is_missing, beside, edges_of}
 use Rattle.matching.specs.Certificate.{Certificate, mate_of, dual_of, offset, Condition, MATE, PARENT, DUAL, EDGE, TIGHT, FREE, FULL}

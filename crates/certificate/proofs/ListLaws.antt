@@ -1,4 +1,5 @@
 -- What the code reads is what the definition reads: the entries of lists, where the numbers are in range.
+use Rattle.std.specs.Prelude.{if◌then◌else◌}
 use mathlib.Core.Path.{◌≡◌, refl, sym, ◌∙◌}
 use mathlib.Core.Bool.{Bool, true, false, not, ◌&&◌, ◌||◌}
 use mathlib.Core.Logic.{◌⊎◌, ⊎_elim}
@@ -11,7 +12,6 @@ use lib.IntN.{ℤ, pos, ◌+ℤ◌}
 use lib.ListN.{length, get_or}
 use Rattle.laws.specs.Integers.{is_zero}
 use Rattle.laws.specs.Lists.{all, range}
-use Rattle.laws.specs.Run.{if◌then◌else◌}
 use Rattle.laws.proofs.Decides.{Decides, equal, at_most, less, both, either, below, itself}
 use Rattle.matching.specs.Graph.{missing, is_missing, is_odd, node_at, first_of, second_of, weight_of, edge_count}
 use Rattle.matching.specs.Certificate.{parent_of, mate_of, dual_of, matched, offset}

@@ -1,4 +1,5 @@
 -- EDGE and TIGHT: the sums of an edge's slack, none of which is too large, and the one pass over the edges.
+use Rattle.std.specs.Prelude.{if◌then◌else◌}
 use mathlib.Core.Path.{◌≡◌, refl, sym, ap, ◌∙◌}
 use mathlib.Core.Bool.{Bool, true, false, not, ◌&&◌, ◌||◌}
 use mathlib.Core.List.{List, []}
@@ -12,7 +13,6 @@ use mir.Val.{SFits, to_z, of_z}
 use mir.ValLaws.{to_z-of_z}
 use Rattle.laws.specs.Integers.{is_zero}
 use Rattle.laws.specs.Lists.{all, range}
-use Rattle.laws.specs.Run.{if◌then◌else◌}
 use Rattle.laws.proofs.Integers.{abs_add, abs_neg, abs_double, fits_near}
 use Rattle.laws.proofs.Lists.{each_range, length_range, abs_total}
 use Rattle.matching.specs.Graph.{edges_of}

@@ -1,4 +1,5 @@
 -- The table of chains: how a climb fills a row, how a row is read, and how two rows are compared from the top.
+use Rattle.std.specs.Prelude.{if◌then◌else◌}
 use mathlib.Core.Path.{◌≡◌, refl, sym, ap, subst, ◌∙◌}
 use mathlib.Core.Bool.{Bool, ◌||◌}
 use mathlib.Core.Logic.{◌≢◌, ◌⊎◌, inl, inr, ⊎_elim}
@@ -15,7 +16,6 @@ use lib.Seq.{ext_get_or, get_or-take, get_or-drop, get_or-set_same, get_or-set_o
 use mir.Syntax.{w64}
 use mir.Val.{SFits}
 use Rattle.laws.specs.Lists.{Each, member, total}
-use Rattle.laws.specs.Run.{if◌then◌else◌}
 use Rattle.laws.proofs.Integers.{abs_add, fits_near}
 use Rattle.laws.proofs.Lists.{abs_total, each_map}
 use Rattle.matching.specs.Graph.{missing, is_missing}

@@ -1,6 +1,7 @@
 -- THE THEOREM, on the code's own answer. Where `check` answers Yes, whatever lists it was lent and whoever wrote them: the edges that the
 -- first n mates name are a matching, and no matching weighs more; with the flag, no matching of at least as many edges does. `Optimal`, in
 -- `matching`, says just that. The one assumption is what the contract of `check` ensures of its answer.
+use Rattle.std.specs.Prelude.{if◌then◌else◌}
 use mathlib.Core.Path.{◌≡◌, refl, sym, ap, ◌∙◌}
 use mathlib.Core.Bool.{Bool, true, false}
 use mathlib.Core.List.{List}
@@ -8,7 +9,6 @@ use Prim.Native.Nat.{ℕ}
 use native.Mathlib.Omega.{arith}
 use lib.IntN.{ℤ}
 use lib.ListN.{length, take}
-use Rattle.laws.specs.Run.{if◌then◌else◌}
 use Rattle.matching.specs.Graph.{edges_from}
 use Rattle.matching.specs.Matching.{Optimal}
 use Rattle.matching.specs.Certificate.{pairs}

@@ -1,8 +1,7 @@
 -- The chain of a number: the groups met in climbing from it, innermost first; and the table that holds the chain of each node.
 -- Definitions only.
-use Rattle.std.specs.Prelude.{◌≡◌, ◌&&◌, List, [], ◌∷◌, ℕ, zero, suc, ◌+◌, ◌*◌, ◌<◌, ◌≤◌, T, ℤ, pos, length, get_or}
+use Rattle.std.specs.Prelude.{if◌then◌else◌, ◌≡◌, ◌&&◌, List, [], ◌∷◌, ℕ, zero, suc, ◌+◌, ◌*◌, ◌<◌, ◌≤◌, T, ℤ, pos, length, get_or}
 use Rattle.laws.specs.Lists.{range, total}
-use Rattle.laws.specs.Run.{if◌then◌else◌}
 use Rattle.matching.specs.Graph.{missing, is_missing}
 use Rattle.matching.specs.Certificate.{parent_of, dual_of, meets}
 use Rattle.matching.specs.Tests.{climb_ends}

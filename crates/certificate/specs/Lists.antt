@@ -1,9 +1,8 @@
 -- The check call on three parallel lists of edges: first nodes, second nodes, weights. Lists of one length are the edge list whose entry e
 -- is made of the three entries e, and then all is as in `steps`. Lists of unequal length are no edge list: BUFFER, at its place in the
 -- order, after NODES and EDGES, where the first nodes are counted. The plan call refuses by the same `intake_lists`. Definitions only.
-use Rattle.std.specs.Prelude.{◌≡◌, Bool, not, ◌&&◌, ◌||◌, List, [], ℕ, ◌+◌, ◌*◌, ◌/◌, ◌<◌, ◌≤◌, eqb, leb, ltb, ℤ, pos, nat_abs, length, get_or}
+use Rattle.std.specs.Prelude.{if◌then◌else◌, ◌≡◌, Bool, not, ◌&&◌, ◌||◌, List, [], ℕ, ◌+◌, ◌*◌, ◌/◌, ◌<◌, ◌≤◌, eqb, leb, ltb, ℤ, pos, nat_abs, length, get_or}
 use Rattle.std.specs.Int.Signed.{le_z}
-use Rattle.laws.specs.Run.{if◌then◌else◌}
 use Rattle.matching.specs.Graph.{Graph, graph_of, edges_from, is_missing, is_odd, beside}
 use Rattle.matching.specs.Certificate.{Certificate, max_dual}
 use Rattle.steps.specs.Refusals.{max_nodes, max_edges, Refusal, NODES, EDGES, BUFFER, Intake, refused, Room, intake}

@@ -7,7 +7,7 @@ ghost use Rattle.certificate.specs.View.{cause_of, condition_of, number_of, plac
 use numbers::Edge;
 
 // Answers 1 to 6: End, Loop and Weight carry the edge.
-#[derive(Drop)]
+#[derive(Clone, Copy)]
 pub enum Cause {
     Nodes,
     Edges,
@@ -17,14 +17,14 @@ pub enum Cause {
     Weight(Edge),
 }
 
-#[derive(Drop)]
+#[derive(Clone, Copy)]
 pub enum Intake {
     Fine,
     Refused(Cause),
 }
 
 // Conditions 11 to 17.
-#[derive(Drop)]
+#[derive(Clone, Copy)]
 pub enum Condition {
     Mate,
     Parent,
@@ -35,7 +35,7 @@ pub enum Condition {
     Full,
 }
 
-#[derive(Drop)]
+#[derive(Clone, Copy)]
 pub enum Verdict {
     Yes,
     No(Condition),

@@ -1,4 +1,6 @@
 // The certificate check: YES exactly where document 01's seven conditions hold, NO with the first that fails, or a refusal before that.
+#![tactic(auto)]
+
 ghost use Rattle.std.specs.Prelude.{◌≡◌, [], ◌∷◌, ◌*◌, length};
 ghost use Rattle.matching.specs.Certificate.{EDGE, TIGHT, FREE, FULL};
 ghost use Rattle.matching.specs.Tests.{verdict, verdict_of};

@@ -58,7 +58,7 @@ fn either(a: bool, b: bool) -> bool
     if a { true } else { b }
 }
 
-#[derive(Drop)]
+#[derive(Clone, Copy)]
 pub(crate) enum Slacks {
     Fit,
     Low,

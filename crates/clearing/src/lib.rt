@@ -1,5 +1,7 @@
 // Lists cleared and copied, and lists of a fixed length that hold one number throughout. Each of the latter is a function of its own, so
 // that a proof meets its name and not its entries.
+#![tactic(auto)]
+
 ghost use Rattle.std.specs.Prelude.{◌≡◌, pos, length, replicate};
 ghost use Rattle.matching.specs.Graph.{missing};
 

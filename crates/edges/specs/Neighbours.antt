@@ -1,7 +1,6 @@
 -- The neighbours of each node as a table: the places offsets[v] to offsets[v + 1] of `far` hold the far end of each end at node v, in
 -- edge order. Definitions only.
-use Rattle.std.specs.Prelude.{◌≡◌, List, [], ◌∷◌, ℕ, zero, suc, ◌+◌, ◌-◌, ◌<◌, ◌≤◌, eqb, length, get_or, take, drop}
-use Rattle.laws.specs.Run.{if◌then◌else◌}
+use Rattle.std.specs.Prelude.{if◌then◌else◌, ◌≡◌, List, [], ◌∷◌, ℕ, zero, suc, ◌+◌, ◌-◌, ◌<◌, ◌≤◌, eqb, length, get_or, take, drop}
 use Rattle.laws.specs.Times.{times}
 use Rattle.matching.specs.Graph.{beside}
 

@@ -1,4 +1,6 @@
 // What the search reads of the edges: an edge's slack, the tighter of two edges, the neighbours of each node.
+#![tactic(auto)]
+
 ghost use Rattle.std.specs.Prelude.{◌≡◌, ◌+◌, ◌*◌, ◌<◌, ◌≤◌, pos, nat_abs, ◌+ℤ◌, ◌-ℤ◌, ◌*ℤ◌, length};
 ghost use Rattle.matching.specs.Graph.{Graph};
 ghost use Rattle.numbers.specs.Edges.{ends_of, weights_of};
@@ -10,13 +12,13 @@ use numbers::Edge;
 
 pub mod neighbours;
 
-#[derive(Drop)]
+#[derive(Clone, Copy)]
 pub enum Amount {
     Of(i64),
     Out,
 }
 
-#[derive(Drop)]
+#[derive(Clone, Copy)]
 pub enum Tested {
     Yes,
     No,

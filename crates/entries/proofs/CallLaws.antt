@@ -1,4 +1,5 @@
 -- The two calls on the lists of a list of entries are the calls on its edges; and what a count over 2,048 is answered by.
+use Rattle.std.specs.Prelude.{if◌then◌else◌}
 use mathlib.Core.Path.{◌≡◌, refl, sym, ap, subst}
 use mathlib.Core.Bool.{Bool, true, false, not}
 use mathlib.Core.List.{List, [], ◌∷◌, map}
@@ -7,7 +8,6 @@ use borrow.Author.Tests.{eq-eqb, lt-ltb, le-ltb}
 use lib.Dec.{T, leb, ltb, leb→le, nleb→lt}
 use lib.IntN.{ℤ, pos}
 use lib.ListN.{length, replicate, length-map}
-use Rattle.laws.specs.Run.{if◌then◌else◌}
 use Rattle.matching.specs.Graph.{Edge, missing, edges_from}
 use Rattle.matching.specs.Certificate.{Certificate}
 use Rattle.steps.specs.Refusals.{Refusal, NODES, EDGES, refused, Room, intake}

@@ -1,5 +1,4 @@
 -- The laws of edge entries laid out as three lists.
 pub mod Laid
-pub mod Rows
 pub mod Told
 pub mod CallLaws

@@ -1,7 +1,6 @@
 -- The edges that a list of entries stands for, and the two calls on three lists with a count beside them. A count over 2,048 is refused by
 -- itself: the lists are not read, since nothing was copied into them. Definitions only.
-use Rattle.std.specs.Prelude.{Bool, List, map, ℕ, ltb, ℤ}
-use Rattle.laws.specs.Run.{if◌then◌else◌}
+use Rattle.std.specs.Prelude.{if◌then◌else◌, Bool, List, map, ℕ, ltb, ℤ}
 use Rattle.matching.specs.Graph.{Edge, edge}
 use Rattle.matching.specs.Certificate.{Certificate}
 use Rattle.steps.specs.Refusals.{max_nodes, max_edges, Refusal, NODES, EDGES, Room}

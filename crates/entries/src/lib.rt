@@ -1,5 +1,7 @@
 // The plan call and the check call on an edge list lent as a list of edge entries. `split` reads the entries into three lists, and the
 // core works on those.
+#![tactic(auto)]
+
 ghost use Rattle.std.specs.Prelude.{◌≡◌, length, take};
 ghost use Rattle.steps.specs.Check.{check as check_of};
 ghost use Rattle.steps.specs.Plan.{plan as planned};
@@ -14,7 +16,7 @@ use clearing::{clear, clear_duals};
 use plan::answers::Answer;
 
 // An edge: its two nodes and its weight.
-#[derive(Drop)]
+#[derive(Clone, Copy)]
 pub struct EdgeEntry {
     pub first: u16,
     pub second: u16,

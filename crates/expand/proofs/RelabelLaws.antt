@@ -1,4 +1,5 @@
 -- Laws of the relabelling of a ring, in the form of the code's tests.
+use Rattle.std.specs.Prelude.{if◌then◌else◌}
 use mathlib.Core.Path.{◌≡◌, sym, ap, ◌∙◌}
 use mathlib.Core.Bool.{Bool, true, false, not}
 use mathlib.Core.List.{List}
@@ -9,7 +10,7 @@ use borrow.Author.Tests.{eq-eqb, ne_eqb}
 use lib.Dec.{eqb}
 use lib.ListN.{length, get_or, take, drop, drop_of_length-le, length-take}
 use lib.Seq.{drop-cons, get_or-take}
-use Rattle.laws.specs.Run.{Run, ok, fault, and_then, if◌then◌else◌, only_if, while, at, position}
+use Rattle.laws.specs.Run.{Run, ok, fault, and_then, only_if, while, at, position}
 use Rattle.laws.proofs.Runs.{then_assoc, while_stop, while_spent, while_broken, while_pass}
 use Rattle.laws.proofs.Kept.{kept_ok, kept_position}
 use Rattle.matching.specs.Graph.{Graph, missing}

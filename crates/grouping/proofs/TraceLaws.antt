@@ -1,4 +1,5 @@
 -- Laws of a path: what an assertion says of its test, and each way through a turn of the walk.
+use Rattle.std.specs.Prelude.{if◌then◌else◌}
 use mathlib.Core.Path.{◌≡◌, refl, sym, ap, ◌∙◌}
 use mathlib.Core.Bool.{Bool, true, false, not}
 use mathlib.Core.Logic.{◌≢◌, ◌⊎◌, inl, inr}
@@ -9,7 +10,7 @@ use borrow.Author.Tests.{eq-eqb, ne_eqb, not-true, not-false}
 use lib.Dec.{eqb}
 use lib.ListN.{length, set, take}
 use lib.Seq.{take-suc-set}
-use Rattle.laws.specs.Run.{Run, ok, fault, and_then, if◌then◌else◌, must, while, at}
+use Rattle.laws.specs.Run.{Run, ok, fault, and_then, must, while, at}
 use Rattle.laws.proofs.Runs.{not_ok, while_stop, while_spent, while_broken, while_pass}
 use Rattle.matching.specs.Graph.{Graph, missing}
 use Rattle.steps.specs.Ends.{present, endpoint}

@@ -35,7 +35,7 @@ fn traceable(labels: &[u16], bases: &[u16], mates: &[u16], b: Group, e: End) -> 
 }
 
 // The end through which a group got its label, and the group across.
-#[derive(Drop)]
+#[derive(Clone, Copy)]
 enum Back {
     To(End, Group),
     Out,

@@ -1,5 +1,6 @@
 -- The node at an end of the graph is a read of the list of ends. Where a list is not too long, a read at `missing` is out of range,
 -- so the test whether a number is missing and the read are one.
+use Rattle.std.specs.Prelude.{if◌then◌else◌}
 use mathlib.Core.Path.{◌≡◌, refl, sym, ap, ◌∙◌}
 use mathlib.Core.Bool.{Bool, true, false}
 use mathlib.Core.List.{List}
@@ -8,7 +9,7 @@ use native.Mathlib.Omega.{arith}
 use borrow.Author.Tests.{eqb-true}
 use lib.Dec.{eqb}
 use lib.ListN.{length}
-use Rattle.laws.specs.Run.{Run, ok, fault, and_then, if◌then◌else◌, at}
+use Rattle.laws.specs.Run.{Run, ok, fault, and_then, at}
 use Rattle.laws.proofs.Runs.{not_ok, then_same}
 use Rattle.laws.proofs.Windows.{at_out}
 use Rattle.matching.specs.Graph.{Edge, graph_of, missing}

@@ -1,7 +1,7 @@
 -- What the lent lists stand for: a state s whose lists are these. The contracts hold for every such s, since a routine reads and
 -- changes nothing else of it. A caller puts its own state for s.
-use Rattle.std.specs.Prelude.{◌≡◌, true, false, List, ℕ, ◌*◌, ◌≤◌, length}
-use Rattle.laws.specs.Run.{Run, ok, fault, if◌then◌else◌}
+use Rattle.std.specs.Prelude.{if◌then◌else◌, ◌≡◌, true, false, List, ℕ, ◌*◌, ◌≤◌, length}
+use Rattle.laws.specs.Run.{Run, ok, fault}
 use Rattle.matching.specs.Graph.{missing, is_missing}
 use Rattle.numbers.specs.Pools.{pooled, PoolFits}
 use Rattle.numbers.specs.declared.GotNode.{GotNode}

@@ -16,7 +16,7 @@ use numbers::{
 };
 
 // One turn of the walk: a mark met, with the base there; a step back; or a fault.
-#[derive(Drop)]
+#[derive(Clone, Copy)]
 enum Hop {
     Meet(Node),
     On(Node),

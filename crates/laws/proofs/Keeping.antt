@@ -1,4 +1,5 @@
 -- `Kept` through one read, store, test, push or pop; and `Agree`: two runs that fault together or give the same result, of which P holds.
+use Rattle.std.specs.Prelude.{if◌then◌else◌}
 use mathlib.Core.Path.{◌≡◌, refl, sym, ap, subst}
 use mathlib.Core.Bool.{Bool, true, false}
 use mathlib.Core.List.{List, [], ◌∷◌, ◌++◌}
@@ -6,7 +7,7 @@ use Prim.Native.Nat.{ℕ, zero, suc, ◌<◌}
 use lib.Dec.{T, ltb, ltb→lt}
 use lib.ListN.{length, get_or, set}
 use Rattle.laws.specs.Lists.{Each}
-use Rattle.laws.specs.Run.{Run, ok, fault, ◌>>=◌, if◌then◌else◌, must, only_if, for_each, while, at, put, push, pop}
+use Rattle.laws.specs.Run.{Run, ok, fault, ◌>>=◌, must, only_if, for_each, while, at, put, push, pop}
 use Rattle.laws.proofs.Kept.{Kept, kept, torn, kept_bind, kept_at, kept_put}
 
 -- ---- one thing at a time

@@ -1,5 +1,6 @@
 -- `Kept P r`: where the run r does not fault, P holds of its result. The form in which what a routine keeps is said and carried through
 -- what comes after it, through loops, reads and stores.
+use Rattle.std.specs.Prelude.{if◌then◌else◌}
 use mathlib.Core.Path.{◌≡◌, refl, subst}
 use mathlib.Core.Bool.{Bool, true, false}
 use mathlib.Core.List.{List, [], ◌∷◌, ◌++◌}
@@ -8,7 +9,7 @@ use native.Mathlib.Omega.{arith}
 use lib.Dec.{T, eqb, ltb, ltb→lt}
 use lib.ListN.{length, get_or, set, length-append}
 use Rattle.laws.proofs.Lists.{count_on}
-use Rattle.laws.specs.Run.{Run, ok, fault, ◌>>=◌, if◌then◌else◌, only_if, for_each, for_range, while, at, put, push, position_from}
+use Rattle.laws.specs.Run.{Run, ok, fault, ◌>>=◌, only_if, for_each, for_range, while, at, put, push, position_from}
 
 at_end : (k : ℕ) → k ≡ k + 0
 at_end k = omega arith

@@ -1,6 +1,6 @@
 -- A computation that may stop with a fault; its tests and loops; and the reads and stores that fault where a list has no such entry.
 -- Definitions only.
-use Rattle.std.specs.Prelude.{Bool, true, false, List, [], ◌∷◌, ◌++◌, ℕ, zero, suc, eqb, ltb, length, set}
+use Rattle.std.specs.Prelude.{if◌then◌else◌, Bool, true, false, List, [], ◌∷◌, ◌++◌, ℕ, zero, suc, eqb, ltb, length, set}
 
 pub data Run (A : Type 0) : Type 0 where
   ok : A → Run A
@@ -16,11 +16,6 @@ abbrev pub and_then : {A B : Type 0} → Run A → (A → Run B) → Run B
 and_then r f = r >>= f
 
 -- ---- tests
-
-infix 2 if◌then◌else◌
-abbrev pub if◌then◌else◌ : {A : Type 0} → Bool → A → A → A
-if true then a else b = a
-if false then a else b = b
 
 -- an assertion
 abbrev pub must : Bool → Run (Unit {0})

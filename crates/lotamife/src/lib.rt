@@ -1,5 +1,7 @@
-// The C interface: include/lotamife.h says the same in C. A slice is a pointer and a length there. No function here has a requires:
+// The two calls behind the C interface, on lists and numbers alone; crate lotamife_c exports them. No function here has a requires:
 // whatever is passed is answered.
+#![tactic(auto)]
+
 ghost use Rattle.std.specs.Prelude.{◌≡◌, length};
 ghost use Rattle.certificate.specs.Lists.{room, certificate_of, check_lists};
 ghost use Rattle.steps.specs.Check.{judgement_number, judgement_place};
@@ -10,8 +12,7 @@ use certificate::answers::{verdict_number, verdict_place};
 use plan::answers::{answer_number, answer_place, answer_steps};
 
 // The plan call. The result is the answer's number, 0 to 8; its place and the steps completed are always written.
-#[unsafe(no_mangle)]
-pub extern "C" fn lotamife_plan(
+pub fn lotamife_plan(
     n: usize,
     first: &[u16],
     second: &[u16],
@@ -43,8 +44,7 @@ pub extern "C" fn lotamife_plan(
 }
 
 // The check call. The result is 0 for YES, 1 to 6 for a refusal, 11 to 17 for NO; its place is always written.
-#[unsafe(no_mangle)]
-pub extern "C" fn lotamife_check(
+pub fn lotamife_check(
     n: usize,
     first: &[u16],
     second: &[u16],

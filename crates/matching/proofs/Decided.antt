@@ -1,5 +1,6 @@
 -- Each test of `specs/Tests.antt` decides its condition; the verdict says what holds, and no other verdict does (`verdict_exact`); and a
 -- verdict of YES on a well-formed graph makes the mates' matching optimal (`yes_optimal`).
+use Rattle.std.specs.Prelude.{if◌then◌else◌}
 use mathlib.Core.Path.{◌≡◌, refl, ap, subst}
 use mathlib.Core.Bool.{Bool, true, false, not}
 use mathlib.Core.Logic.{◌⊎◌, inl, inr, ⊎_elim, ◌↔◌}
@@ -9,7 +10,6 @@ use native.Mathlib.Omega.{arith}
 use lib.IntN.{ℤ, pos, nat_abs, ◌+ℤ◌}
 use lib.Signed.{◌<ℤ◌}
 use Rattle.laws.specs.Lists.{Each}
-use Rattle.laws.specs.Run.{if◌then◌else◌}
 use Rattle.laws.proofs.Decides.{Decides, said, both, either, given, equal, at_most, less, at_mostℤ, lessℤ, nought, itself, below, in_range, passed, failed}
 use Rattle.laws.proofs.Lists.{each}
 use Rattle.matching.specs.Graph.{Graph, edge_count, missing, beside, node_at, WellFormed}

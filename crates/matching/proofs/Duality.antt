@@ -3,6 +3,7 @@
 -- 2w + 2 offset is at most the lifts at its two ends plus twice the duals of the groups around it, and is that if the edge is matched
 -- (`slack_parts`). Summed over a matching, the lifts come to at most those of all nodes, which are those of the mates' matching
 -- (`lifts_bound`), and the duals to at most its own, since a group with a dual above 0 is full (`around_bound`).
+use Rattle.std.specs.Prelude.{if◌then◌else◌}
 use mathlib.Core.Path.{◌≡◌, ap, ◌∙◌}
 use mathlib.Core.Bool.{Bool, true, false, not, ◌&&◌}
 use mathlib.Core.Logic.{◌⊎◌, inl, inr, ⊎_elim}
@@ -16,7 +17,6 @@ use lib.Signed.{◌≤ℤ◌, ◌<ℤ◌, ≤ℤ_refl}
 use lib.ListN.{length, get_or, take, length-take, get_or-eq_default}
 use lib.Seq.{get_or-take}
 use Rattle.laws.specs.Integers.{greater, least}
-use Rattle.laws.specs.Run.{if◌then◌else◌}
 use Rattle.laws.proofs.Integers.{up, down, parts, pos_parts, neg_parts, add_parts, sub_of_parts, double_parts, nonneg_parts, greater_ge, least_le}
 use Rattle.laws.specs.Lists.{Each, sum, bit}
 use Rattle.laws.proofs.Lists.{each, each_at, each_map, each_range, sum_le, sum_same, sum_zero, sum_times, sum_swap, total_parts}

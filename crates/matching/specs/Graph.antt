@@ -1,8 +1,7 @@
 -- A graph with weighted edges. Node, edge, end and group numbers are counted apart: nodes are 0 to n - 1, edges go in list order,
 -- edge e has the end 2e at its first node and the end 2e + 1 at its second, groups are n to 2n - 1. Definitions only.
-use Rattle.std.specs.Prelude.{Bool, ◌≢◌, List, [], ◌∷◌, ℕ, ◌+◌, ◌*◌, ◌-◌, ◌/◌, ◌%◌, ◌<◌, eqb, leb, ℤ, pos, length, get_or}
+use Rattle.std.specs.Prelude.{if◌then◌else◌, Bool, ◌≢◌, List, [], ◌∷◌, ℕ, ◌+◌, ◌*◌, ◌-◌, ◌/◌, ◌%◌, ◌<◌, eqb, leb, ℤ, pos, length, get_or}
 use Rattle.laws.specs.Lists.{range}
-use Rattle.laws.specs.Run.{if◌then◌else◌}
 
 -- an edge: its two nodes and its weight
 pub record Edge : Type 0 where

@@ -1,10 +1,9 @@
 -- Tests that compute, one for each condition, and the verdict that they give together: YES, or NO with the first condition that fails.
 -- Definitions only; `proofs/Decided.antt` shows that each test decides its condition and that the verdict says what holds.
-use Rattle.std.specs.Prelude.{◌≡◌, Bool, not, ◌&&◌, ◌||◌, ◌⊎◌, List, [], ◌∷◌, ℕ, zero, suc, ◌*◌, ◌-◌, ◌/◌, ◌%◌, eqb, leb, ltb, ℤ, pos, nat_abs, ◌+ℤ◌}
+use Rattle.std.specs.Prelude.{if◌then◌else◌, ◌≡◌, Bool, not, ◌&&◌, ◌||◌, ◌⊎◌, List, [], ◌∷◌, ℕ, zero, suc, ◌*◌, ◌-◌, ◌/◌, ◌%◌, eqb, leb, ltb, ℤ, pos, nat_abs, ◌+ℤ◌}
 use Rattle.std.specs.Int.Signed.{le_z, lt_z}
 use Rattle.laws.specs.Integers.{is_zero}
 use Rattle.laws.specs.Lists.{range, all}
-use Rattle.laws.specs.Run.{if◌then◌else◌}
 use Rattle.matching.specs.Graph.{Graph, edge_count, nodes_of, edges_of, groups_of, is_missing, beside, node_at}
 use Rattle.matching.specs.Certificate.{Certificate, mate_of, dual_of, parent_of, max_dual, matched, pairs, size, within, full_slack, offset, Condition, MATE, PARENT, DUAL, EDGE, TIGHT, FREE, FULL, conditions, Holds, Passes}
 

@@ -1,4 +1,5 @@
 -- Laws of the rows of a pool as the definition sees them: a read of a row, what a store to a count does, and a row rewritten whole.
+use Rattle.std.specs.Prelude.{if◌then◌else◌}
 use mathlib.Core.Path.{◌≡◌, refl, sym, ap, ◌∙◌}
 use mathlib.Core.Bool.{Bool, true, false, not}
 use mathlib.Core.Logic.{◌≢◌}
@@ -11,7 +12,7 @@ use lib.Dec.{T, ltb, nltb→le}
 use lib.ListN.{length, get_or, set, take, replicate, drop}
 use lib.Seq.{get_or-set_same, get_or-set_other}
 use Rattle.laws.specs.Rows.{row_of, places}
-use Rattle.laws.specs.Run.{Run, ok, fault, if◌then◌else◌, at, and_then, for_each}
+use Rattle.laws.specs.Run.{Run, ok, fault, at, and_then, for_each}
 use Rattle.laws.proofs.Rows.{at_rows, at_rows_out, set_rows, row_whole, other_row, constant_rows, row_of_length, row_of_at}
 use Rattle.numbers.specs.Pools.{row_in, pooled, PoolFits}
 use Rattle.laws.proofs.Runs.{for_each_next, for_each_end}

@@ -1,8 +1,7 @@
 -- Lists of lists as fixed pools, one row of n places for each group: a node has an empty row. The definition's `children`, `ring_ends` and
 -- `best_lists`, of 2n rows, seen in a pool and its counts.
-use Rattle.std.specs.Prelude.{◌≡◌, List, [], ℕ, ◌*◌, ◌-◌, ltb, length}
+use Rattle.std.specs.Prelude.{if◌then◌else◌, ◌≡◌, List, [], ℕ, ◌*◌, ◌-◌, ltb, length}
 use Rattle.laws.specs.Rows.{rows, row_of}
-use Rattle.laws.specs.Run.{if◌then◌else◌}
 
 abbrev pub row_in : (n : ℕ) → (counts pool : List ℕ) → (b : ℕ) → List ℕ
 row_in n counts pool b = if ltb b n then [] else row_of n counts pool (b - n)

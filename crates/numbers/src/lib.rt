@@ -1,5 +1,7 @@
 // Node, edge, end and group numbers are counted apart: a tuple struct each. One becomes another, or a plain number, only by a
 // function named here. Lists store plain numbers; a read of one answers a number of the kind that the list holds, or Out.
+#![tactic(auto)]
+
 ghost use Rattle.std.specs.Prelude.{◌≡◌, ◌+◌, ◌*◌, ◌/◌, ◌<◌, ◌≤◌, length, take, replicate};
 ghost use Rattle.laws.specs.Run.{at, put, push as push_of};
 ghost use Rattle.matching.specs.Graph.{beside as beside_of, missing, is_missing};
@@ -10,17 +12,17 @@ pub mod pools;
 
 pub const MISSING: u16 = 65535;
 
-#[derive(Drop)]
+#[derive(Clone, Copy)]
 pub struct Node(pub u16);
 
-#[derive(Drop)]
+#[derive(Clone, Copy)]
 pub struct Edge(pub u16);
 
-#[derive(Drop)]
+#[derive(Clone, Copy)]
 pub struct End(pub u16);
 
 // An outermost number: a group, or a node that stands alone.
-#[derive(Drop)]
+#[derive(Clone, Copy)]
 pub struct Group(pub u16);
 
 impl Node {
@@ -127,31 +129,31 @@ impl Group {
     }
 }
 
-#[derive(Drop)]
+#[derive(Clone, Copy)]
 pub enum Got {
     At(u16),
     Out,
 }
 
-#[derive(Drop)]
+#[derive(Clone, Copy)]
 pub enum GotNode {
     At(Node),
     Out,
 }
 
-#[derive(Drop)]
+#[derive(Clone, Copy)]
 pub enum GotEdge {
     At(Edge),
     Out,
 }
 
-#[derive(Drop)]
+#[derive(Clone, Copy)]
 pub enum GotEnd {
     At(End),
     Out,
 }
 
-#[derive(Drop)]
+#[derive(Clone, Copy)]
 pub enum GotGroup {
     At(Group),
     Out,

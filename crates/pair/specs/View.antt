@@ -5,4 +5,4 @@ use Rattle.pair.specs.declared.Input.TheVariants as inputs
 
 abbrev pub Within : (room : ℕ) → input.Input → Type 0
 Within room (inputs.Bytes size) = size ≤ room
-Within room inputs.Failed = Unit {0}
+Within room (inputs.Failed error) = Unit {0}

@@ -1,4 +1,5 @@
 -- The plan call on three parallel lists, by what is refused and whether there are edges; the lent lists are cleared first.
+use Rattle.std.specs.Prelude.{if◌then◌else◌}
 use mathlib.Core.Path.{◌≡◌, refl, sym, ap, ◌∙◌}
 use mathlib.Core.Bool.{Bool, true, false}
 use mathlib.Core.List.{List, [], ◌∷◌}
@@ -6,7 +7,6 @@ use Prim.Native.Nat.{ℕ, ◌<◌}
 use native.Mathlib.Omega.{arith}
 use lib.IntN.{ℤ, pos}
 use lib.ListN.{length, replicate, length-replicate}
-use Rattle.laws.specs.Run.{if◌then◌else◌}
 use Rattle.matching.specs.Graph.{Edge, edges_from, missing}
 use Rattle.steps.specs.Refusals.{Refusal, Intake, fine, refused, Room, intake}
 use Rattle.steps.specs.State.{start}

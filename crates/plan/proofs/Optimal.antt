@@ -2,6 +2,7 @@
 -- held on entry: the edges that the lent mates name are a matching, and no matching weighs more; with the flag, no matching of at least as
 -- many edges does. `Optimal`, in `matching`, says just that. The first n mates name the same edges. The one assumption is what the contract
 -- of `plan` ensures of its answer.
+use Rattle.std.specs.Prelude.{if◌then◌else◌}
 use mathlib.Core.Path.{◌≡◌, refl, sym, ap, subst, ◌∙◌}
 use mathlib.Core.Bool.{Bool, true, false}
 use mathlib.Core.List.{List}
@@ -10,7 +11,6 @@ use native.Mathlib.Omega.{arith}
 use lib.IntN.{ℤ}
 use lib.ListN.{length, take}
 use lib.Seq.{get_or-take}
-use Rattle.laws.specs.Run.{if◌then◌else◌}
 use Rattle.matching.specs.Graph.{Edge, Graph, graph_of, edges_from, edge_count, first_of, second_of, missing, WellFormed}
 use Rattle.matching.specs.Matching.{Optimal}
 use Rattle.matching.specs.Certificate.{mate_of, matched, pairs}

@@ -1,7 +1,6 @@
 -- What the code's answers stand for, and the plan call on three parallel lists of edges. Document 01's number, place and steps of an answer
 -- are `number_of`, `place_of` and `steps_of` of it.
-use Rattle.std.specs.Prelude.{Bool, List, ℕ, ℤ, length}
-use Rattle.laws.specs.Run.{if◌then◌else◌}
+use Rattle.std.specs.Prelude.{if◌then◌else◌, Bool, List, ℕ, ℤ, length}
 use Rattle.matching.specs.Graph.{edges_from}
 use Rattle.matching.specs.Certificate.{Certificate}
 use Rattle.steps.specs.Refusals.{Room}

@@ -5,7 +5,7 @@ ghost use Rattle.plan.specs.View.{number_of, place_of, steps_of};
 use certificate::answers::{Cause, cause_number, cause_place};
 
 // Done, Steps and Fault carry the steps completed.
-#[derive(Drop)]
+#[derive(Clone, Copy)]
 pub enum Answer {
     Done(u32),
     Steps(u32),

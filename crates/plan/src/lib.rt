@@ -1,4 +1,6 @@
 // The plan call: the pairs of greatest weight, with a certificate, or why there are none.
+#![tactic(auto)]
+
 ghost use Rattle.std.specs.Prelude.{◌≡◌, ◌<◌, length};
 ghost use Rattle.certificate.specs.Lists.{Known, Weighed, lent, room};
 ghost use Rattle.steps.specs.Plan.{plan_end, run};

@@ -1,16 +1,20 @@
 // Plans each problem of standard input, the oracle's fixed list, and holds the answer against the record: steps, mates, duals, parents
 // and pairs, and every other entry of the lent lists. It writes each record that differs and how many records there were. The list's
 // form is in compare/README.md.
+#![tactic(auto)]
+
 ghost use Rattle.std.specs.Prelude.{◌≡◌, ◌<◌, ◌≤◌, length};
 
-use libc::{STDIN_FILENO, STDOUT_FILENO};
 use plan::answers::{answer_number, answer_place, answer_steps};
+use replays::read_full;
+use std::io;
+use std::io::{Read, Write};
 
 const MISSING: u16 = 65535;
 
-fn byte() -> u8 {
+fn byte<R: Read>(from: &mut R) -> u8 {
     let mut b = [0u8; 1];
-    io::read_full(STDIN_FILENO, &mut b);
+    read_full(from, &mut b);
     b[0]
 }
 
@@ -21,20 +25,20 @@ fn wide(b: u8) -> u64
 }
 
 // A number of two bytes, the low one first.
-fn number() -> u16 {
-    let low = byte() as u16;
-    let high = byte() as u16;
+fn number<R: Read>(from: &mut R) -> u16 {
+    let low = byte(from) as u16;
+    let high = byte(from) as u16;
     low + 256 * high
 }
 
 // A number of four bytes.
-fn long_number() -> u64
+fn long_number<R: Read>(from: &mut R) -> u64
     ensures { result < 4294967296 }
 {
-    let b0 = wide(byte());
-    let b1 = wide(byte());
-    let b2 = wide(byte());
-    let b3 = wide(byte());
+    let b0 = wide(byte(from));
+    let b1 = wide(byte(from));
+    let b2 = wide(byte(from));
+    let b3 = wide(byte(from));
     b0 + 256 * b1 + 65536 * b2 + 16777216 * b3
 }
 
@@ -53,8 +57,8 @@ fn above(size: u64) -> i64
 }
 
 // A signed number of four bytes.
-fn weight_read() -> i64 {
-    let x = long_number();
+fn weight_read<R: Read>(from: &mut R) -> i64 {
+    let x = long_number(from);
     if x >= 2147483648 {
         return below(4294967295 - x);
     }
@@ -62,9 +66,9 @@ fn weight_read() -> i64 {
 }
 
 // A signed number of eight bytes.
-fn dual_read() -> i64 {
-    let low = long_number();
-    let high = long_number();
+fn dual_read<R: Read>(from: &mut R) -> i64 {
+    let low = long_number(from);
+    let high = long_number(from);
     if high >= 2147483648 {
         return below((4294967295 - high) * 4294967296 + (4294967295 - low));
     }
@@ -72,24 +76,30 @@ fn dual_read() -> i64 {
 }
 
 // The first k edges are read.
-fn read_edges(first: &mut [u16; 2048], second: &mut [u16; 2048], weight: &mut [i64; 2048], k: usize)
+fn read_edges<R: Read>(
+    from: &mut R,
+    first: &mut [u16; 2048],
+    second: &mut [u16; 2048],
+    weight: &mut [i64; 2048],
+    k: usize,
+)
     requires { (k ≤ 2048) × (length first.old ≡ 2048) × (length second.old ≡ 2048) × (length weight.old ≡ 2048) }
     ensures { (length first.new ≡ 2048) × (length second.new ≡ 2048) × (length weight.new ≡ 2048) }
 {
     for i in 0..k {
-        first[i] = byte() as u16;
-        second[i] = byte() as u16;
-        weight[i] = weight_read();
+        first[i] = byte(from) as u16;
+        second[i] = byte(from) as u16;
+        weight[i] = weight_read(from);
     }
 }
 
 // The first k numbers are those that come next, and all others are missing.
-fn same_numbers(list: &[u16], k: usize) -> bool {
+fn same_numbers<R: Read>(from: &mut R, list: &[u16], k: usize) -> bool {
     let mut same = true;
     for i in 0..list.len() {
         let mut x = MISSING;
         if i < k {
-            x = number();
+            x = number(from);
         }
         if list[i] != x {
             same = false;
@@ -99,12 +109,12 @@ fn same_numbers(list: &[u16], k: usize) -> bool {
 }
 
 // The first k duals are those that come next, and all others are 0.
-fn same_duals(list: &[i64], k: usize) -> bool {
+fn same_duals<R: Read>(from: &mut R, list: &[i64], k: usize) -> bool {
     let mut same = true;
     for i in 0..list.len() {
         let mut x = 0;
         if i < k {
-            x = dual_read();
+            x = dual_read(from);
         }
         if list[i] != x {
             same = false;
@@ -142,9 +152,9 @@ fn higher(first: &[u16], second: &[u16], mates: &[u16], v: usize) -> u16 {
 }
 
 // The next pair of the record is v and w.
-fn next_is(v: usize, w: u16) -> bool {
-    let a = byte() as usize;
-    let b = byte() as u16;
+fn next_is<R: Read>(from: &mut R, v: usize, w: u16) -> bool {
+    let a = byte(from) as usize;
+    let b = byte(from) as u16;
     if a != v {
         return false;
     }
@@ -152,19 +162,19 @@ fn next_is(v: usize, w: u16) -> bool {
 }
 
 // Pairs of the record that are left over are passed over.
-fn pass_over(count: u8) -> bool {
+fn pass_over<R: Read>(from: &mut R, count: u8) -> bool {
     let mut left = count;
     while left > 0 {
-        byte();
-        byte();
+        byte(from);
+        byte(from);
         left -= 1;
     }
     count == 0
 }
 
 // The pairs that the mates make, ascending by lower node, are those of the record.
-fn same_pairs(first: &[u16], second: &[u16], mates: &[u16]) -> bool {
-    let mut left = byte();
+fn same_pairs<R: Read>(from: &mut R, first: &[u16], second: &[u16], mates: &[u16]) -> bool {
+    let mut left = byte(from);
     let mut same = true;
     for v in 0..mates.len() {
         let w = higher(first, second, mates, v);
@@ -173,29 +183,29 @@ fn same_pairs(first: &[u16], second: &[u16], mates: &[u16]) -> bool {
                 same = false;
             } else {
                 left -= 1;
-                if !next_is(v, w) {
+                if !next_is(from, v, w) {
                     same = false;
                 }
             }
         }
     }
-    if !pass_over(left) {
+    if !pass_over(from, left) {
         same = false;
     }
     same
 }
 
-fn say(x: u64, end: u8) {
-    io::print_decimal(STDOUT_FILENO, x);
-    let after = [end];
-    io::write_all(STDOUT_FILENO, &after);
+// A write that fails is passed over.
+fn say<W: Write>(out: &mut W, x: u64, end: u8) {
+    let _ = write!(out, "{x}");
+    let _ = out.write_all(&[end]);
 }
 
 // What differs is said by a number of its own at the record's place.
-fn differs(place: u32, what: u64, same: bool) {
+fn differs<W: Write>(out: &mut W, place: u32, what: u64, same: bool) {
     if !same {
-        say(place as u64, b' ');
-        say(what, b'\n');
+        say(out, place as u64, b' ');
+        say(out, what, b'\n');
     }
 }
 
@@ -204,7 +214,16 @@ fn twice(n: u8) -> usize {
 }
 
 // Plans the edges of a record of n nodes and holds the answer against what comes next.
-fn compare(place: u32, n: u8, first: &[u16], second: &[u16], weight: &[i64], flag: bool) {
+fn compare<R: Read, W: Write>(
+    from: &mut R,
+    out: &mut W,
+    place: u32,
+    n: u8,
+    first: &[u16],
+    second: &[u16],
+    weight: &[i64],
+    flag: bool,
+) {
     let mut mates = [7u16; 67];
     let mut duals = [7i64; 131];
     let mut parents = [7u16; 131];
@@ -219,37 +238,48 @@ fn compare(place: u32, n: u8, first: &[u16], second: &[u16], weight: &[i64], fla
         &mut duals,
         &mut parents,
     );
-    differs(place, 1, answer_number(a) == 0);
-    differs(place, 2, answer_place(a) == 0);
-    differs(place, 3, answer_steps(a) as u64 == long_number());
-    differs(place, 4, same_pairs(first, second, &mates));
-    differs(place, 5, same_numbers(&mates, n as usize));
-    differs(place, 6, same_duals(&duals, twice(n)));
-    differs(place, 7, same_numbers(&parents, twice(n)));
+    differs(out, place, 1, answer_number(a) == 0);
+    differs(out, place, 2, answer_place(a) == 0);
+    differs(out, place, 3, answer_steps(a) as u64 == long_number(from));
+    differs(out, place, 4, same_pairs(from, first, second, &mates));
+    differs(out, place, 5, same_numbers(from, &mates, n as usize));
+    differs(out, place, 6, same_duals(from, &duals, twice(n)));
+    differs(out, place, 7, same_numbers(from, &parents, twice(n)));
 }
 
 // One record of n nodes and m edges.
-fn replay(place: u32, n: u8, m: usize, flag: bool)
+fn replay<R: Read, W: Write>(from: &mut R, out: &mut W, place: u32, n: u8, m: usize, flag: bool)
     requires { m ≤ 2048 }
 {
     let mut first = [0u16; 2048];
     let mut second = [0u16; 2048];
     let mut weight = [0i64; 2048];
-    read_edges(&mut first, &mut second, &mut weight, m);
-    compare(place, n, &first[..m], &second[..m], &weight[..m], flag);
+    read_edges(from, &mut first, &mut second, &mut weight, m);
+    compare(
+        from,
+        out,
+        place,
+        n,
+        &first[..m],
+        &second[..m],
+        &weight[..m],
+        flag,
+    );
 }
 
 // The list begins with its mark, which is not looked at, and its count of records.
-fn main() {
-    long_number();
-    let count = long_number() as u32;
+fn main(rt: HostRuntime) {
+    let mut from = rt.reader();
+    let mut out = io::writer(&rt);
+    long_number(&mut from);
+    let count = long_number(&mut from) as u32;
     for place in 0..count {
-        let n = byte();
-        let flag = byte() == 1;
-        let m = number() as usize;
+        let n = byte(&mut from);
+        let flag = byte(&mut from) == 1;
+        let m = number(&mut from) as usize;
         if m <= 2048 {
-            replay(place, n, m, flag);
+            replay(&mut from, &mut out, place, n, m, flag);
         }
     }
-    say(count as u64, b'\n');
+    say(&mut out, count as u64, b'\n');
 }

@@ -1,4 +1,5 @@
 -- The pairs found so far, node by node: how many, what they weigh, and their lines; and the pair at one node as the code reads it.
+use Rattle.std.specs.Prelude.{if◌then◌else◌}
 use mathlib.Core.Path.{◌≡◌, refl, sym, ap, ◌∙◌}
 use mathlib.Core.Bool.{Bool, true, false}
 use mathlib.Core.List.{List, [], ◌∷◌, ◌++◌, append_assoc, append-nil}
@@ -13,7 +14,6 @@ use mir.Syntax.{w64}
 use mir.Val.{SFits, to_z, of_z}
 use mir.ValLaws.{to_z-of_z}
 use Rattle.laws.specs.Lists.{range, total}
-use Rattle.laws.specs.Run.{if◌then◌else◌}
 use Rattle.laws.proofs.Integers.{abs_add, fits_near}
 use Rattle.numbers.specs.Near.{Near}
 use Rattle.matching.specs.Graph.{Graph, node_at, missing, is_odd}

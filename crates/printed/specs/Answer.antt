@@ -1,7 +1,6 @@
 -- The printed answer: `pair`'s output from the reader's refusal, or from the plan and the edges. Definitions only.
-use Rattle.std.specs.Prelude.{List, [], ◌∷◌, ◌++◌, ℕ, ◌/◌, ltb, ℤ, length}
+use Rattle.std.specs.Prelude.{if◌then◌else◌, List, [], ◌∷◌, ◌++◌, ℕ, ◌/◌, ltb, ℤ, length}
 use Rattle.laws.specs.Lists.{total}
-use Rattle.laws.specs.Run.{if◌then◌else◌}
 use Rattle.matching.specs.Graph.{Graph, nodes_of, node_at, weight_of, is_missing}
 use Rattle.matching.specs.Certificate.{mate_of}
 use Rattle.steps.specs.Refusals.{Refusal, NODES, EDGES, BUFFER, END, LOOP, WEIGHT}

@@ -11,7 +11,7 @@ use certificate::nodes::node_at;
 use numbers::{Edge, End, MISSING, Node};
 
 // The pair whose lower node is some node: its higher node and its edge; or there is none.
-#[derive(Drop)]
+#[derive(Clone, Copy)]
 enum Paired {
     With(Node, Edge),
     Alone,

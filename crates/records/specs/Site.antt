@@ -1,7 +1,6 @@
 -- The site file, from bytes (numbers below 256) to n, flag, budget and edges, or to a refusal with its place.
 -- A file is a run of records: one byte of kind, then a body of fixed length, numbers little-endian. Definitions only.
-use Rattle.std.specs.Prelude.{Bool, true, false, not, List, [], ◌∷◌, ◌++◌, ℕ, zero, suc, ◌+◌, ◌*◌, ◌-◌, ◌^◌, min, eqb, ltb, leb, ℤ, pos, negsuc, length, get_or, set, replicate}
-use Rattle.laws.specs.Run.{if◌then◌else◌}
+use Rattle.std.specs.Prelude.{if◌then◌else◌, Bool, true, false, not, List, [], ◌∷◌, ◌++◌, ℕ, zero, suc, ◌+◌, ◌*◌, ◌-◌, ◌^◌, min, eqb, ltb, leb, ℤ, pos, negsuc, length, get_or, set, replicate}
 use Rattle.matching.specs.Graph.{Edge, edge}
 use Rattle.steps.specs.Refusals.{max_nodes, max_edges}
 

@@ -3,7 +3,7 @@ ghost use Rattle.std.specs.Prelude.{◌≡◌, ◌+◌, leb, length};
 ghost use Rattle.records.specs.Site.{byte_at, word_at, long_at, signed as signed_of, kind_of, body as body_of};
 ghost use Rattle.records.specs.View.{named_of, kind_view};
 
-#[derive(Drop)]
+#[derive(Clone, Copy)]
 pub enum Kind {
     N,
     C,
@@ -14,7 +14,7 @@ pub enum Kind {
     G,
 }
 
-#[derive(Drop)]
+#[derive(Clone, Copy)]
 pub enum Named {
     Known(Kind),
     Unknown,

@@ -9,7 +9,7 @@ use crate::cursor::{Named, ended_at, kind_at};
 use crate::records::{Next, Reading, take_at};
 use crate::whole::{Site, read_from};
 
-#[derive(Drop)]
+#[derive(Clone, Copy)]
 pub struct Reader<'a> {
     pub file: &'a [u8],
     pub at: usize,

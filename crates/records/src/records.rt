@@ -14,7 +14,7 @@ pub(crate) const MAX_EDGES: u16 = 2048;
 
 const MAX_TIME: u32 = 1000000000;
 
-#[derive(Drop)]
+#[derive(Clone, Copy)]
 pub enum Complaint {
     Nodes,
     Edges,
@@ -27,7 +27,7 @@ pub enum Complaint {
 }
 
 // What has been read so far: the next record's place, what N, G, C and B said, and how many edges stand in the lent lists.
-#[derive(Drop)]
+#[derive(Clone, Copy)]
 pub struct Reading {
     pub place: usize,
     pub opened: bool,
@@ -40,7 +40,7 @@ pub struct Reading {
     pub count: u16,
 }
 
-#[derive(Drop)]
+#[derive(Clone, Copy)]
 pub enum Next {
     Onward(Reading),
     Stopped(Complaint),

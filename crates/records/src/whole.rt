@@ -12,7 +12,7 @@ use crate::records::{Complaint, MAX_EDGES, Next, Reading, take_record};
 const MAX_BYTES: usize = 65536;
 
 // What an accepted file says; its edges stand in the lent lists.
-#[derive(Drop)]
+#[derive(Clone, Copy)]
 pub struct Head {
     pub nodes: u16,
     pub flag: bool,
@@ -21,7 +21,7 @@ pub struct Head {
 }
 
 // A refusal has its place in the file.
-#[derive(Drop)]
+#[derive(Clone, Copy)]
 pub enum Site {
     Read(Head),
     Refused(Complaint, usize),
@@ -87,6 +87,7 @@ pub(crate) fn read_from(
 }
 
 // The records of a file, one after another.
+#[tactic(auto, unfolding(crate::specs::Site::read_records))]
 fn read_records(
     file: &[u8],
     first: &mut [u16],

@@ -1,4 +1,5 @@
 -- A stage closed: the state by value, made anew of what the routine left.
+use Rattle.std.specs.Prelude.{if◌then◌else◌}
 use mathlib.Core.Path.{◌≡◌, sym, ap, ◌∙◌}
 use mathlib.Core.Bool.{Bool, true, false, not, true≢false}
 use mathlib.Core.List.{List, ◌++◌}
@@ -7,7 +8,7 @@ use native.Mathlib.Omega.{arith}
 use borrow.Author.Tests.{eq-eqb}
 use lib.Dec.{T, ltb, ltb→lt, nltb→le}
 use lib.ListN.{length, take, drop}
-use Rattle.laws.specs.Run.{ok, fault, and_then, for_range, if◌then◌else◌}
+use Rattle.laws.specs.Run.{ok, fault, and_then, for_range}
 use Rattle.matching.specs.Graph.{Edge, graph_of}
 use Rattle.expand.specs.View.{emptied}
 use Rattle.steps.specs.State.{State, Phase, opening, ended}

@@ -1,4 +1,5 @@
 -- The next step, by phase.
+use Rattle.std.specs.Prelude.{if◌then◌else◌}
 use mathlib.Core.Path.{◌≡◌, refl, sym, ap, ◌∙◌}
 use mathlib.Core.Bool.{Bool, true, false}
 use mathlib.Core.List.{List, [], ◌∷◌}
@@ -6,7 +7,7 @@ use Prim.Native.Nat.{ℕ, zero, suc, ◌<◌, ◌≤◌}
 use native.Mathlib.Omega.{arith}
 use native.Mathlib.Nat.{not-suc-le-zero}
 use lib.ListN.{length, take}
-use Rattle.laws.specs.Run.{Run, ok, fault, and_then, if◌then◌else◌}
+use Rattle.laws.specs.Run.{Run, ok, fault, and_then}
 use Rattle.matching.specs.Graph.{Graph, is_group}
 use Rattle.steps.specs.State.{State, Phase, opening, searching, closing, ended}
 use Rattle.steps.specs.Steps.{open_stage, take_node, close_stage, take_or_adjust, step_at, step}

@@ -1,6 +1,6 @@
 -- What the state by value stands for: each list of the definition is the first entries of its array.
-use Rattle.std.specs.Prelude.{◌≡◌, false, ℕ, ◌*◌, ◌<◌, ◌≤◌, eqb, take}
-use Rattle.laws.specs.Run.{Run, ok, fault, if◌then◌else◌}
+use Rattle.std.specs.Prelude.{if◌then◌else◌, ◌≡◌, false, ℕ, ◌*◌, ◌<◌, ◌≤◌, eqb, take}
+use Rattle.laws.specs.Run.{Run, ok, fault}
 use Rattle.numbers.specs.Near.{Near}
 use Rattle.steps.specs.State.{State, Phase, opening, searching, closing, ended}
 use Rattle.steps.specs.Plan.{is_ended}

@@ -23,7 +23,7 @@ fn at_most(count: u16, limit: u16) -> u16
 }
 
 // What a step leaves besides the lists.
-#[derive(Drop)]
+#[derive(Clone, Copy)]
 struct Left {
     pub bad: bool,
     pub queued: u16,

@@ -11,7 +11,7 @@ use clearing::{all_64, all_128, fill_duals, zeros_128};
 use numbers::MISSING;
 
 // What the next step is.
-#[derive(Drop)]
+#[derive(Clone, Copy)]
 pub(crate) enum Phase {
     Opening,
     Searching,

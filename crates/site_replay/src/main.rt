@@ -1,19 +1,23 @@
 // Reads each site file of standard input and writes what it reads as, one to a line: 0, n, flag, budget and how many edges, or the
 // refusal's number and place; then = where the three lent lists are what they must be over their whole length, and ! where not.
 // The input and the lines that must come out are made by compare/site-files, which knows document 01 and nothing of this code.
+#![tactic(auto)]
+
 ghost use Rattle.std.specs.Prelude.{◌<◌};
 
-use libc::{STDIN_FILENO, STDOUT_FILENO};
 use records::cursor::{long_at, signed, word_at};
 use records::records::Complaint;
 use records::whole::{Site, read_site};
+use replays::read_full;
+use std::io;
+use std::io::{Read, Write};
 
 const ENTRIES: usize = 2048;
 
-fn say(x: u64) {
-    io::print_decimal(STDOUT_FILENO, x);
-    let space = [32u8];
-    io::write_all(STDOUT_FILENO, &space);
+// A write that fails is passed over.
+fn say<W: Write>(out: &mut W, x: u64) {
+    let _ = write!(out, "{x}");
+    let _ = out.write_all(b" ");
 }
 
 fn number(c: Complaint) -> u64 {
@@ -60,45 +64,46 @@ fn edges_are(first: &[u16], second: &[u16], weight: &[i64], expected: &[u8]) -> 
     true
 }
 
-fn tell(site: Site, same: bool) {
+fn tell<W: Write>(out: &mut W, site: Site, same: bool) {
     match site {
         Site::Read(h) => {
-            say(0);
-            say(h.nodes as u64);
-            say(h.flag as u64);
-            say(h.budget as u64);
-            say(h.edges as u64);
+            say(out, 0);
+            say(out, h.nodes as u64);
+            say(out, h.flag as u64);
+            say(out, h.budget as u64);
+            say(out, h.edges as u64);
         }
         Site::Refused(c, place) => {
-            say(number(c));
-            say(place as u64);
+            say(out, number(c));
+            say(out, place as u64);
         }
     }
     if same {
-        io::write_all(STDOUT_FILENO, &[b'=', b'\n']);
+        let _ = out.write_all(b"=\n");
     } else {
-        io::write_all(STDOUT_FILENO, &[b'!', b'\n']);
+        let _ = out.write_all(b"!\n");
     }
 }
 
 // A length: four bytes, low byte first; more than any file here has where the input has ended.
-fn length() -> usize {
+fn length<R: Read>(from: &mut R) -> usize {
     let mut head = [0u8; 4];
-    if io::read_full(STDIN_FILENO, &mut head) == 4 {
+    if read_full(from, &mut head) == 4 {
         return long_at(&head, 0, 0) as usize;
     }
     4294967295
 }
 
 // The first bytes of a buffer, from the input.
-fn fetch(buffer: &mut [u8], size: usize) {
+fn fetch<R: Read>(from: &mut R, buffer: &mut [u8], size: usize) {
     if size <= buffer.len() {
-        io::read_full(STDIN_FILENO, &mut buffer[..size]);
+        read_full(from, &mut buffer[..size]);
     }
 }
 
 // The first bytes of a buffer as a site file, and whether the lists are then what they must be.
-fn judge(
+fn judge<W: Write>(
+    out: &mut W,
     buffer: &[u8],
     size: usize,
     expected: &[u8],
@@ -109,27 +114,29 @@ fn judge(
     if size <= buffer.len() {
         let site = read_site(&buffer[..size], first, second, weight);
         let same = edges_are(first, second, weight, expected);
-        tell(site, same);
+        tell(out, site, same);
     }
 }
 
 // Reads one file and what its edges must be; false where the input has ended. The lists are not clear beforehand.
-fn one(
+fn one<R: Read, W: Write>(
+    from: &mut R,
+    out: &mut W,
     file: &mut [u8],
     expected: &mut [u8],
     first: &mut [u16],
     second: &mut [u16],
     weight: &mut [i64],
 ) -> bool {
-    let size = length();
+    let size = length(from);
     if file.len() < size {
         return false;
     }
-    fetch(file, size);
+    fetch(from, file, size);
     clear(expected);
-    let known = length();
-    fetch(expected, known);
-    judge(file, size, expected, first, second, weight);
+    let known = length(from);
+    fetch(from, expected, known);
+    judge(out, file, size, expected, first, second, weight);
     true
 }
 
@@ -141,7 +148,9 @@ fn clear(list: &mut [u8]) {
     }
 }
 
-fn all(
+fn all<R: Read, W: Write>(
+    from: &mut R,
+    out: &mut W,
     file: &mut [u8],
     expected: &mut [u8],
     first: &mut [u16],
@@ -150,20 +159,22 @@ fn all(
 ) {
     let mut left = 100000u32;
     while left > 0 {
-        if !one(file, expected, first, second, weight) {
+        if !one(from, out, file, expected, first, second, weight) {
             return;
         }
         left -= 1;
     }
 }
 
-fn main() {
+fn main(rt: HostRuntime) {
     let mut file = [0u8; 65540];
     let mut expected = [0u8; 16384];
     let mut first = [7u16; ENTRIES];
     let mut second = [8u16; ENTRIES];
     let mut weight = [9i64; ENTRIES];
     all(
+        &mut rt.reader(),
+        &mut io::writer(&rt),
         &mut file,
         &mut expected,
         &mut first,

@@ -1,4 +1,5 @@
 -- A plan that is done was not refused, so the weights of its edges are near zero; and what a plan prints.
+use Rattle.std.specs.Prelude.{if◌then◌else◌}
 use mathlib.Core.Path.{◌≡◌, refl, sym, ap, subst, ◌∙◌}
 use mathlib.Core.Bool.{Bool, true, false}
 use mathlib.Core.List.{List}
@@ -8,7 +9,6 @@ use borrow.Author.Tests.{ltb-true, ltb-false}
 use lib.Dec.{T, ltb}
 use lib.IntN.{ℤ, pos, nat_abs}
 use lib.ListN.{length, get_or}
-use Rattle.laws.specs.Run.{if◌then◌else◌}
 use Rattle.matching.specs.Graph.{Edge, Graph, graph_of, edges_from}
 use Rattle.numbers.specs.Near.{Near}
 use Rattle.steps.specs.Refusals.{Refusal, Intake, fine, refused, Room, intake}

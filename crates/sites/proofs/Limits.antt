@@ -1,4 +1,5 @@
 -- A file that is accepted has at most 64 nodes.
+use Rattle.std.specs.Prelude.{if◌then◌else◌}
 use mathlib.Core.Path.{◌≡◌, refl}
 use mathlib.Core.Bool.{Bool, true, false, not}
 use mathlib.Core.List.{List}
@@ -6,7 +7,6 @@ use Prim.Native.Nat.{ℕ, zero, suc, ◌+◌, ◌≤◌, zero-le}
 use borrow.Author.Tests.{ltb-false}
 use lib.Dec.{eqb, ltb, leb}
 use lib.ListN.{length, replicate}
-use Rattle.laws.specs.Run.{if◌then◌else◌}
 use Rattle.steps.specs.Refusals.{max_nodes, max_edges}
 use Rattle.records.specs.Site as site
 

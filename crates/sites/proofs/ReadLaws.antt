@@ -1,4 +1,5 @@
 -- What the reader answered, with what stands at the front of its lists, is the definition's outcome; and its text is the file's.
+use Rattle.std.specs.Prelude.{if◌then◌else◌}
 use mathlib.Core.Path.{◌≡◌, refl, sym, ap, subst, ◌∙◌}
 use mathlib.Core.Bool.{Bool, true, false}
 use mathlib.Core.List.{List, [], ◌∷◌, ◌++◌, map}
@@ -9,7 +10,6 @@ use lib.IntN.{ℤ, pos}
 use lib.ListN.{length, take, drop, replicate, length-append, length-replicate, length-take, take-append-drop}
 use lib.Seq.{take-append_seam}
 use borrow.Author.Tests.{eq-eqb}
-use Rattle.laws.specs.Run.{if◌then◌else◌}
 use Rattle.laws.proofs.Windows.{drop_replicate}
 use Rattle.matching.specs.Graph.{Edge, edges_from}
 use Rattle.certificate.specs.Lists.{room, same_length}

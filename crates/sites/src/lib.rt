@@ -1,4 +1,6 @@
 // From a site file's bytes to the printed answer: reads the file, plans it, and prints the plan or the refusal into a lent buffer.
+#![tactic(auto)]
+
 ghost use Rattle.std.specs.Prelude.{◌≡◌, List, ℕ, ◌*◌, ◌≤◌, ℤ, length, take};
 ghost use Rattle.certificate.specs.Lists.{lent};
 ghost use Rattle.records.specs.WholeView.{padded};

@@ -1,4 +1,5 @@
 -- Laws of the amount of an adjustment: what an offer does, in the code's numbers and in the definition.
+use Rattle.std.specs.Prelude.{if◌then◌else◌}
 use mathlib.Core.Path.{◌≡◌, refl, sym, ◌∙◌}
 use mathlib.Core.Bool.{Bool, true, false}
 use Prim.Native.Nat.{ℕ, zero, suc, ◌<◌, ◌≤◌}
@@ -8,7 +9,7 @@ use lib.IntN.{ℤ, pos}
 use lib.ListN.{take}
 use lib.Signed.{lt_z}
 use Rattle.laws.specs.Integers.{is_even, half, greater}
-use Rattle.laws.specs.Run.{Run, ok, fault, and_then, if◌then◌else◌, at}
+use Rattle.laws.specs.Run.{Run, ok, fault, and_then, at}
 use Rattle.laws.proofs.Runs.{then_assoc, then_same, then_fault}
 use Rattle.matching.specs.Graph.{Graph, is_missing}
 use Rattle.steps.specs.Ends.{slack_of}

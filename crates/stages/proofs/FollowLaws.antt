@@ -1,4 +1,5 @@
 -- Laws of what follows an adjustment: a node queued anew, the labelled end of an edge.
+use Rattle.std.specs.Prelude.{if◌then◌else◌}
 use mathlib.Core.Path.{◌≡◌, refl}
 use mathlib.Core.Bool.{Bool, true, false}
 use mathlib.Core.List.{List}
@@ -6,7 +7,7 @@ use Prim.Native.Nat.{ℕ, ◌<◌}
 use borrow.Author.Tests.{eq-eqb, ne_eqb, ltb-true}
 use lib.Dec.{ltb}
 use lib.ListN.{length, set}
-use Rattle.laws.specs.Run.{ok, fault, and_then, if◌then◌else◌, at, put}
+use Rattle.laws.specs.Run.{ok, fault, and_then, at, put}
 use Rattle.laws.proofs.Runs.{not_ok}
 use Rattle.matching.specs.Graph.{Graph, Edge}
 use Rattle.steps.specs.State.{State}

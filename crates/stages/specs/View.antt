@@ -1,6 +1,6 @@
 -- What the lent lists and the answers stand for: a state s whose lists are these, and the amount of a dual adjustment.
-use Rattle.std.specs.Prelude.{◌≡◌, Bool, List, ℕ, zero, suc, ◌*◌, ◌<◌, ◌≤◌, ℤ, nat_abs, length}
-use Rattle.laws.specs.Run.{Run, ok, fault, if◌then◌else◌}
+use Rattle.std.specs.Prelude.{if◌then◌else◌, ◌≡◌, Bool, List, ℕ, zero, suc, ◌*◌, ◌<◌, ◌≤◌, ℤ, nat_abs, length}
+use Rattle.laws.specs.Run.{Run, ok, fault}
 use Rattle.numbers.specs.Near.{Near}
 use Rattle.numbers.specs.Pools.{pooled}
 use Rattle.steps.specs.State.{State}

@@ -1,7 +1,7 @@
 -- Passing an edge in two parts: what is found of it, and what is then done.
-use Rattle.std.specs.Prelude.{Bool, true, false, not, ◌&&◌, ℕ, ◌/◌, ℤ, pos}
+use Rattle.std.specs.Prelude.{if◌then◌else◌, Bool, true, false, not, ◌&&◌, ℕ, ◌/◌, ℤ, pos}
 use Rattle.std.specs.Int.Signed.{le_z}
-use Rattle.laws.specs.Run.{Run, ok, fault, ◌>>=◌, if◌then◌else◌, only_if, at}
+use Rattle.laws.specs.Run.{Run, ok, fault, ◌>>=◌, only_if, at}
 use Rattle.matching.specs.Graph.{Graph}
 use Rattle.steps.specs.Ends.{slack_of}
 use Rattle.steps.specs.State.{State}

@@ -18,7 +18,7 @@ use numbers::{Edge, Got, GotEdge, Group, MISSING, Node, edge_in};
 
 // The least amount found so far, its kind (0 where there is none, 1 to 4 as in the source, 5 for a fault), and the edge (kinds 2
 // and 3) or group (kind 4) that gave it. Numbers, so that it stays in registers.
-#[derive(Drop)]
+#[derive(Clone, Copy)]
 pub struct Delta {
     pub kind: u16,
     pub amount: i64,

@@ -1,4 +1,6 @@
 // The parts of the four steps: choosing the amount of a dual adjustment, moving the duals, opening a stage, passing an edge.
+#![tactic(auto)]
+
 ghost use Rattle.std.specs.Prelude.{◌≡◌};
 ghost use Rattle.laws.specs.Run.{and_then, at};
 ghost use Rattle.numbers.specs.View.{got_of};

@@ -18,7 +18,7 @@ use numbers::{
 };
 
 // What a look says of a visit.
-#[derive(Drop)]
+#[derive(Clone, Copy)]
 pub enum Seen {
     // it changes nothing
     Pass,

@@ -94,7 +94,7 @@ fn keep_edge(
 }
 
 // What is found of an edge.
-#[derive(Drop)]
+#[derive(Clone, Copy)]
 enum Found {
     Allowed,
     // not allowed, and of this slack
@@ -103,7 +103,7 @@ enum Found {
 }
 
 // How an edge was passed, with how many are queued then; an edge that joins two label-1 groups is left to be joined.
-#[derive(Drop)]
+#[derive(Clone, Copy)]
 pub enum Passed {
     On(u16),
     Join(u16),

@@ -1,4 +1,5 @@
 -- What input that passes checks 1 to 6 is: within the limits, lists long enough, each edge between two nodes that are there.
+use Rattle.std.specs.Prelude.{if◌then◌else◌}
 use mathlib.Core.Path.{◌≡◌, sym, subst}
 use mathlib.Core.Bool.{Bool, true, false, ◌||◌}
 use mathlib.Core.List.{List, [], ◌∷◌}
@@ -9,7 +10,6 @@ use lib.IntN.{pos, nat_abs}
 use lib.ListN.{length}
 use mathlib.Core.Logic.{◌≢◌, inl, inr}
 use Rattle.laws.specs.Lists.{Each}
-use Rattle.laws.specs.Run.{if◌then◌else◌}
 use Rattle.laws.proofs.Decides.{equal, less, at_most, either}
 use Rattle.laws.proofs.Lists.{each_at}
 use Rattle.matching.specs.Graph.{Edge, edge, graph_of, first_of, second_of, WellFormed}

@@ -5,6 +5,7 @@
 -- From it: at most (n - 1) / 2 groups are in use; a free number is always there; number n is never taken; and the run by the source's
 -- own test is our run, step for step.
 -- Nothing is asked of the edges. Of n it is asked that node and group numbers stay below `missing`: 2n is at most 65,535.
+use Rattle.std.specs.Prelude.{if◌then◌else◌}
 use mathlib.Core.Path.{◌≡◌, refl, ap, subst}
 use mathlib.Core.Bool.{Bool, true, false}
 use mathlib.Core.Logic.{◌≢◌}
@@ -12,7 +13,7 @@ use mathlib.Core.List.{List, [], ◌∷◌}
 use Prim.Native.Nat.{ℕ, zero, suc, ◌*◌, ◌-◌, ◌/◌, ◌≤◌}
 use native.Mathlib.Omega.{arith}
 use lib.Dec.{T, leb, ltb, leb→le, le→leb, ltb→lt, lt→ltb}
-use Rattle.laws.specs.Run.{Run, ok, fault, if◌then◌else◌}
+use Rattle.laws.specs.Run.{Run, ok, fault}
 use Rattle.laws.proofs.Kept.{kept_ok}
 use Rattle.laws.proofs.Keeping.{Agree, agree, both_torn, agree_kept, agree_same}
 use Rattle.matching.specs.Graph.{Edge, Graph, graph_of, missing, is_group}

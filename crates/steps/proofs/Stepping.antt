@@ -1,5 +1,6 @@
 -- Each of the four kinds of step keeps what holds after a completed step; and two runs by tests that agree everywhere but at number n
 -- take the same step (`Agree`, as in Augmenting).
+use Rattle.std.specs.Prelude.{if◌then◌else◌}
 use mathlib.Core.Path.{◌≡◌, refl}
 use mathlib.Core.Bool.{Bool, true, false, not, ◌&&◌}
 use mathlib.Core.Logic.{◌≢◌, inl, ⊎_elim}
@@ -12,7 +13,7 @@ use lib.IntN.{pos}
 use lib.Signed.{le_z}
 use lib.ListN.{take}
 use Rattle.laws.specs.Integers.{is_zero, half, is_even}
-use Rattle.laws.specs.Run.{ok, if◌then◌else◌, must, at, pop}
+use Rattle.laws.specs.Run.{ok, must, at, pop}
 use Rattle.laws.proofs.Kept.{Kept, kept, torn, kept_bind, kept_map, kept_only_if, kept_for_range}
 use Rattle.laws.proofs.Keeping.{skip, load, either_way, Agree, agree, agree_of, agree_bind, agree_skip, agree_either, agree_only_if}
 use Rattle.matching.specs.Graph.{Graph, missing, is_missing, beside}

@@ -1,8 +1,8 @@
 -- `add_blossom`: a new group of the two paths from an edge's ends back to their meeting point.
 -- Definitions only.
-use Rattle.std.specs.Prelude.{Bool, true, false, not, ◌&&◌, List, [], ◌∷◌, ◌++◌, reverse, map, ℕ, ◌*◌, ◌/◌, ℤ, pos, eqb, leb, length}
+use Rattle.std.specs.Prelude.{if◌then◌else◌, Bool, true, false, not, ◌&&◌, List, [], ◌∷◌, ◌++◌, reverse, map, ℕ, ◌*◌, ◌/◌, ℤ, pos, eqb, leb, length}
 use Rattle.laws.specs.Lists.{repeats}
-use Rattle.laws.specs.Run.{Run, ok, ◌>>=◌, if◌then◌else◌, must, only_if, for_each, while, at, pop}
+use Rattle.laws.specs.Run.{Run, ok, ◌>>=◌, must, only_if, for_each, while, at, pop}
 use Rattle.matching.specs.Graph.{Graph, missing, is_missing, is_odd, beside}
 use Rattle.steps.specs.Ends.{present, endpoint, tighter, far_ends}
 use Rattle.steps.specs.State.{State}

@@ -1,9 +1,9 @@
 -- One dual adjustment with what follows it: types 1 to 4 as in the source.
 -- Definitions only.
-use Rattle.std.specs.Prelude.{Bool, true, false, not, ◌&&◌, List, [], ◌∷◌, ℕ, ◌*◌, ℤ, pos, nat_abs, ◌+ℤ◌, ◌-ℤ◌, eqb, leb, take}
+use Rattle.std.specs.Prelude.{if◌then◌else◌, Bool, true, false, not, ◌&&◌, List, [], ◌∷◌, ℕ, ◌*◌, ℤ, pos, nat_abs, ◌+ℤ◌, ◌-ℤ◌, eqb, leb, take}
 use Rattle.std.specs.Int.Signed.{lt_z}
 use Rattle.laws.specs.Integers.{is_even, half, greater, least_from}
-use Rattle.laws.specs.Run.{Run, ok, fault, ◌>>=◌, if◌then◌else◌, must, only_if, for_range, at}
+use Rattle.laws.specs.Run.{Run, ok, fault, ◌>>=◌, must, only_if, for_range, at}
 use Rattle.matching.specs.Graph.{Graph, Edge, is_missing}
 use Rattle.matching.specs.Certificate.{max_dual}
 use Rattle.steps.specs.Ends.{slack_of}

@@ -1,7 +1,7 @@
 -- `augment_blossom` and `augment_matching`: matched and unmatched edges change places along a path.
 -- Definitions only.
-use Rattle.std.specs.Prelude.{Bool, true, false, not, List, ℕ, zero, suc, ◌+◌, ◌*◌, eqb, length}
-use Rattle.laws.specs.Run.{Run, ok, fault, ◌>>=◌, if◌then◌else◌, must, only_if, while, at, position}
+use Rattle.std.specs.Prelude.{if◌then◌else◌, Bool, true, false, not, List, ℕ, zero, suc, ◌+◌, ◌*◌, eqb, length}
+use Rattle.laws.specs.Run.{Run, ok, fault, ◌>>=◌, must, only_if, while, at, position}
 use Rattle.matching.specs.Graph.{Graph, is_missing, is_group, is_odd, beside}
 use Rattle.matching.specs.Tests.{mates_pass}
 use Rattle.steps.specs.Ends.{present, endpoint}

@@ -1,9 +1,9 @@
 -- What the search reads of the graph: the node at an end, an edge's slack, the ends across from a node, the largest weight.
 -- A fault where the source would index outside a list or unwrap something missing. Definitions only.
-use Rattle.std.specs.Prelude.{Bool, true, false, ◌&&◌, List, [], ◌∷◌, ℕ, suc, ◌+◌, ◌*◌, ℤ, pos, eqb, ltb, length}
+use Rattle.std.specs.Prelude.{if◌then◌else◌, Bool, true, false, ◌&&◌, List, [], ◌∷◌, ℕ, suc, ◌+◌, ◌*◌, ℤ, pos, eqb, ltb, length}
 use Rattle.std.specs.Int.Signed.{lt_z}
 use Rattle.laws.specs.Integers.{greater}
-use Rattle.laws.specs.Run.{Run, ok, fault, ◌>>=◌, if◌then◌else◌, must, at}
+use Rattle.laws.specs.Run.{Run, ok, fault, ◌>>=◌, must, at}
 use Rattle.matching.specs.Graph.{Edge, Graph, edge_count, is_missing, node_at}
 use Rattle.matching.specs.Certificate.{slack}
 

@@ -1,8 +1,8 @@
 -- `expand_blossom`: an outermost group is taken apart, and its children become outermost.
 -- Definitions only.
-use Rattle.std.specs.Prelude.{Bool, true, false, not, ◌&&◌, List, [], ◌∷◌, ℕ, zero, suc, ◌*◌, ◌/◌, eqb, ltb, length}
+use Rattle.std.specs.Prelude.{if◌then◌else◌, Bool, true, false, not, ◌&&◌, List, [], ◌∷◌, ℕ, zero, suc, ◌*◌, ◌/◌, eqb, ltb, length}
 use Rattle.laws.specs.Integers.{is_zero}
-use Rattle.laws.specs.Run.{Run, ok, fault, ◌>>=◌, if◌then◌else◌, must, only_if, for_each, while, at, push, position}
+use Rattle.laws.specs.Run.{Run, ok, fault, ◌>>=◌, must, only_if, for_each, while, at, push, position}
 use Rattle.matching.specs.Graph.{Graph, missing, is_odd, beside}
 use Rattle.steps.specs.Ends.{present, endpoint}
 use Rattle.steps.specs.State.{State}

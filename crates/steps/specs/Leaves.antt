@@ -1,7 +1,7 @@
 -- `blossom_leaves`: the nodes of a group, child after child, each child's nodes in turn. They go on the end of the list `out`.
 -- A fault where groups nest deeper than `depth`, or where the list would pass `cap` entries. Definitions only.
-use Rattle.std.specs.Prelude.{List, [], ℕ, zero, suc, ◌*◌, ltb}
-use Rattle.laws.specs.Run.{Run, fault, ◌>>=◌, if◌then◌else◌, for_each, at, push}
+use Rattle.std.specs.Prelude.{if◌then◌else◌, List, [], ℕ, zero, suc, ◌*◌, ltb}
+use Rattle.laws.specs.Run.{Run, fault, ◌>>=◌, for_each, at, push}
 use Rattle.matching.specs.Graph.{Graph}
 use Rattle.steps.specs.State.{State}
 

@@ -1,7 +1,7 @@
 -- The plan call: the refusals, the run counted against the budget, its certificate judged, and the answer with the final contents of
 -- the three lent lists over their whole length. Definitions only.
-use Rattle.std.specs.Prelude.{Bool, true, false, List, [], ◌∷◌, ◌++◌, ℕ, zero, suc, ◌*◌, ◌-◌, ℤ, pos, replicate}
-use Rattle.laws.specs.Run.{Run, ok, fault, if◌then◌else◌}
+use Rattle.std.specs.Prelude.{if◌then◌else◌, Bool, true, false, List, [], ◌∷◌, ◌++◌, ℕ, zero, suc, ◌*◌, ◌-◌, ℤ, pos, replicate}
+use Rattle.laws.specs.Run.{Run, ok, fault}
 use Rattle.matching.specs.Graph.{Graph, graph_of, Edge, missing, is_group}
 use Rattle.matching.specs.Certificate.{Certificate}
 use Rattle.matching.specs.Tests.{Verdict, YES, NO, verdict}

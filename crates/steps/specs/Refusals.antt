@@ -1,7 +1,6 @@
 -- The limits, and what both calls refuse before anything is read of the search or the certificate: answers 1 to 6 with their places.
 -- The only place where the limits stand. Definitions only.
-use Rattle.std.specs.Prelude.{Bool, ◌||◌, List, [], ◌∷◌, ℕ, suc, ◌*◌, nat_abs, eqb, ltb, leb, length}
-use Rattle.laws.specs.Run.{if◌then◌else◌}
+use Rattle.std.specs.Prelude.{if◌then◌else◌, Bool, ◌||◌, List, [], ◌∷◌, ℕ, suc, ◌*◌, nat_abs, eqb, ltb, leb, length}
 use Rattle.matching.specs.Graph.{Edge}
 
 abbrev pub max_nodes : ℕ

@@ -1,7 +1,7 @@
 -- Places in the ring of a group's children. The source's negative position is a place counted round the ring.
 -- Definitions only.
-use Rattle.std.specs.Prelude.{Bool, true, false, List, ◌++◌, ℕ, zero, suc, ◌-◌, eqb, take, drop}
-use Rattle.laws.specs.Run.{Run, ok, fault, ◌>>=◌, if◌then◌else◌, at}
+use Rattle.std.specs.Prelude.{if◌then◌else◌, Bool, true, false, List, ◌++◌, ℕ, zero, suc, ◌-◌, eqb, take, drop}
+use Rattle.laws.specs.Run.{Run, ok, fault, ◌>>=◌, at}
 use Rattle.matching.specs.Graph.{beside}
 
 -- the next place of len: forward from an odd start, backward from an even one, so that place 0 is reached after an even number

@@ -1,8 +1,8 @@
 -- `scan_blossom`: a walk back from two nodes by turns. The first group met twice ends it, and its base is the result; else none.
 -- The source marks the groups it has passed in the labels and restores them at the end; here the walk marks a copy of its own, so
 -- the labels are left as they were. Definitions only.
-use Rattle.std.specs.Prelude.{Bool, true, false, not, ◌&&◌, ◌||◌, List, ℕ, ◌*◌, ◌/◌, ◌%◌, eqb}
-use Rattle.laws.specs.Run.{Run, ok, ◌>>=◌, if◌then◌else◌, must, while, at, put}
+use Rattle.std.specs.Prelude.{if◌then◌else◌, Bool, true, false, not, ◌&&◌, ◌||◌, List, ℕ, ◌*◌, ◌/◌, ◌%◌, eqb}
+use Rattle.laws.specs.Run.{Run, ok, ◌>>=◌, must, while, at, put}
 use Rattle.matching.specs.Graph.{Graph, missing, is_missing}
 use Rattle.steps.specs.Ends.{present, endpoint}
 use Rattle.steps.specs.State.{State}

@@ -1,9 +1,9 @@
 -- The four kinds of step: opening a stage, taking a node, adjusting the duals, closing a stage.
 -- In the source they stand in the loops of `max_weight_matching`. Definitions only.
-use Rattle.std.specs.Prelude.{Bool, true, false, not, ◌&&◌, List, [], ◌∷◌, ◌++◌, ℕ, suc, ◌*◌, ◌/◌, ℤ, pos, eqb, replicate, take}
+use Rattle.std.specs.Prelude.{if◌then◌else◌, Bool, true, false, not, ◌&&◌, List, [], ◌∷◌, ◌++◌, ℕ, suc, ◌*◌, ◌/◌, ℤ, pos, eqb, replicate, take}
 use Rattle.std.specs.Int.Signed.{lt_z, le_z}
 use Rattle.laws.specs.Integers.{is_zero}
-use Rattle.laws.specs.Run.{Run, ok, ◌>>=◌, if◌then◌else◌, must, only_if, for_range, at, pop}
+use Rattle.laws.specs.Run.{Run, ok, ◌>>=◌, must, only_if, for_range, at, pop}
 use Rattle.matching.specs.Graph.{Graph, edge_count, missing, is_missing, beside}
 use Rattle.steps.specs.Ends.{endpoint, slack_of, far_ends}
 use Rattle.steps.specs.State.{State, Phase, opening, searching, closing, ended}

@@ -1,4 +1,6 @@
 // Taking a node from the queue: its neighbours are visited, until they end or the matching is augmented.
+#![tactic(auto)]
+
 ghost use Rattle.std.specs.Prelude.{◌≡◌, List, ℕ, ◌*◌, ◌≤◌, length};
 ghost use Rattle.matching.specs.Graph.{Edge as EdgeOf, graph_of, is_group};
 ghost use Rattle.numbers.specs.Edges.{ends_of, weights_of};

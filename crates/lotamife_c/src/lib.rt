@@ -1,0 +1,69 @@
+// The C interface: include/lotamife.h says the same in C. A slice is a pointer and a length there. No function here has a requires:
+// whatever is passed is answered.
+#![tactic(auto)]
+
+ghost use Rattle.std.specs.Prelude.{◌≡◌, length};
+ghost use Rattle.certificate.specs.Lists.{room, certificate_of, check_lists};
+ghost use Rattle.steps.specs.Check.{judgement_number, judgement_place};
+ghost use Rattle.plan.specs.View.{plan_lists};
+ghost use Rattle.lotamife.specs.View.{Planned};
+
+// The plan call. The result is the answer's number, 0 to 8; its place and the steps completed are always written.
+#[unsafe(no_mangle)]
+pub extern "C" fn lotamife_plan(
+    n: usize,
+    first: &[u16],
+    second: &[u16],
+    weight: &[i64],
+    max_cardinality: bool,
+    budget: u32,
+    mates: &mut [u16],
+    duals: &mut [i64],
+    parents: &mut [u16],
+    place: &mut u32,
+    steps: &mut u32,
+) -> u32
+    ensures { Planned (plan_lists (room (length mates.old) (length duals.old) (length parents.old)) n first.now second.now weight.now max_cardinality budget) result place.new steps.new mates.new duals.new parents.new }
+{
+    lotamife::lotamife_plan(
+        n,
+        first,
+        second,
+        weight,
+        max_cardinality,
+        budget,
+        mates,
+        duals,
+        parents,
+        place,
+        steps,
+    )
+}
+
+// The check call. The result is 0 for YES, 1 to 6 for a refusal, 11 to 17 for NO; its place is always written.
+#[unsafe(no_mangle)]
+pub extern "C" fn lotamife_check(
+    n: usize,
+    first: &[u16],
+    second: &[u16],
+    weight: &[i64],
+    max_cardinality: bool,
+    mates: &[u16],
+    duals: &[i64],
+    parents: &[u16],
+    place: &mut u32,
+) -> u32
+    ensures { (result ≡ judgement_number (check_lists n first.now second.now weight.now max_cardinality (certificate_of mates.now duals.now parents.now))) × (place.new ≡ judgement_place (check_lists n first.now second.now weight.now max_cardinality (certificate_of mates.now duals.now parents.now))) }
+{
+    lotamife::lotamife_check(
+        n,
+        first,
+        second,
+        weight,
+        max_cardinality,
+        mates,
+        duals,
+        parents,
+        place,
+    )
+}
