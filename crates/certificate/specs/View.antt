@@ -3,7 +3,7 @@ use Rattle.std.specs.Prelude.{Bool, true, false, ℕ}
 use Rattle.laws.specs.Lists.{all}
 use Rattle.matching.specs.Graph.{Graph, edges_of}
 use Rattle.matching.specs.Certificate.{Certificate, Condition, MATE, PARENT, DUAL, EDGE, TIGHT, FREE, FULL}
-use Rattle.matching.specs.Tests.{Verdict, YES, NO, edge_test, tight_test}
+use Rattle.matching.specs.Tests.{YES, NO, edge_test, tight_test}
 use Rattle.steps.specs.Refusals.{Refusal, NODES, EDGES, BUFFER, END, LOOP, WEIGHT, Intake, fine, refused}
 use Rattle.steps.specs.Check.{Judgement, JUDGED, DECLINED, judgement_number, judgement_place}
 use Rattle.certificate.specs.declared.answers.Cause as cause

@@ -16,7 +16,7 @@ use lib.IntN.{ℤ, pos, neg_ℤ, ◌+ℤ◌, ◌-ℤ◌, ◌*ℤ◌}
 use lib.Signed.{◌≤ℤ◌, ◌<ℤ◌, ≤ℤ_refl}
 use lib.ListN.{length, get_or, take, length-take, get_or-eq_default}
 use lib.Seq.{get_or-take}
-use Rattle.laws.specs.Integers.{greater, least}
+use Rattle.laws.specs.Integers.{least}
 use Rattle.laws.proofs.Integers.{up, down, parts, pos_parts, neg_parts, add_parts, sub_of_parts, double_parts, nonneg_parts, greater_ge, least_le}
 use Rattle.laws.specs.Lists.{Each, sum, bit}
 use Rattle.laws.proofs.Lists.{each, each_at, each_map, each_range, sum_le, sum_same, sum_zero, sum_times, sum_swap, total_parts}

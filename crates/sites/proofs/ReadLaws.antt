@@ -12,7 +12,7 @@ use lib.Seq.{take-append_seam}
 use borrow.Author.Tests.{eq-eqb}
 use Rattle.laws.proofs.Windows.{drop_replicate}
 use Rattle.matching.specs.Graph.{Edge, edges_from}
-use Rattle.certificate.specs.Lists.{room, same_length}
+use Rattle.certificate.specs.Lists.{same_length}
 use Rattle.records.specs.Site as site
 use Rattle.records.specs.View.{complaint_of}
 use Rattle.records.specs.WholeView.{padded, told_by, ReadAs}

@@ -10,7 +10,7 @@ use lib.ListN.{set, length-set}
 use lib.Seq.{get_or-set_same, get_or-set_other}
 use Rattle.laws.specs.Lists.{Each}
 use Rattle.laws.specs.Times.{times}
-use Rattle.laws.specs.Run.{Run, for_each, at, push}
+use Rattle.laws.specs.Run.{Run, for_each, push}
 use Rattle.laws.proofs.Times.{same_or_not, bit_same, times_nil, times_later, times_snoc, each_times}
 use Rattle.laws.proofs.Kept.{Kept, kept, torn, kept_bind, kept_map}
 use Rattle.laws.proofs.Keeping.{skip, load, either_way, kept_push, kept_each, kept_all, kept_both}

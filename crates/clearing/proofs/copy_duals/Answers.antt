@@ -1,4 +1,4 @@
-use Rattle.std.proofs.Common.{refl, sym, ap, ◌∙◌, ◌+◌, ◌-◌, arith, ℤ, pos, get_or, set, take, length-set, w64}
+use Rattle.std.proofs.Common.{refl, sym, ap, ◌∙◌, ◌+◌, arith, ℤ, pos, get_or, set, take, length-set, w64}
 use mir.ValLaws.{to_z-of_z}
 use Rattle.laws.proofs.Windows.{copy_next, copy_end}
 use Rattle.clearing.proofs.copy_duals.Goals as goal

@@ -1,4 +1,4 @@
-use Rattle.std.proofs.Common.{rules, refl, ap, ◌∙◌, ◌-◌, arith, length, replicate, length-set, w64}
+use Rattle.std.proofs.Common.{rules, refl, ap, ◌∙◌, arith, length, replicate, length-set, w64}
 use mir.ValLaws.{to_z-of_z}
 use Rattle.laws.proofs.Windows.{fill_more, fill_all}
 use Rattle.clearing.proofs.fill_duals.Goals as goal

@@ -1,5 +1,4 @@
-use Rattle.std.proofs.Common.{sym, ap, ◌∙◌, ℕ, ◌≤◌, arith, ℤ, length, take, length-take-le}
-use borrow.Author.Rules.{length_unmapped}
+use Rattle.std.proofs.Common.{sym, ap, ◌∙◌, take}
 use Rattle.steps.specs.Check.{Judgement, DECLINED}
 use Rattle.steps.specs.Refusals.{Refusal}
 use Rattle.certificate.specs.Lists.{certificate_of}

@@ -1,4 +1,4 @@
-use Rattle.std.proofs.Common.{◌≡◌, ℕ, ◌<◌, Bool, List, ℤ, length, take, sym, ap, ◌∙◌}
+use Rattle.std.proofs.Common.{◌≡◌, ℕ, Bool, List, ℤ, length, take, sym, ap, ◌∙◌}
 use Rattle.entries.specs.Entries.{lists_of}
 use Rattle.entries.specs.declared.EdgeEntry.{EdgeEntry}
 use Rattle.entries.specs.declared.EdgeLists.{EdgeLists}

@@ -1,5 +1,4 @@
-use Rattle.std.proofs.Common.{sym, ◌∙◌, ℕ, ◌≤◌, arith, ℤ, length, take, length-take-le}
-use borrow.Author.Rules.{length_unmapped}
+use Rattle.std.proofs.Common.{sym, ◌∙◌, length, take}
 use Rattle.certificate.specs.Lists.{room}
 use Rattle.entries.proofs.CallLaws.{plan_over, plan_within, refused_plan}
 use Rattle.entries.proofs.plan_lists.Goals as goal

@@ -1,4 +1,4 @@
-use Rattle.std.proofs.Common.{◌≡◌, ◌-◌, ◌≤◌, length, replicate, pos}
+use Rattle.std.proofs.Common.{◌≡◌, ◌-◌, ◌≤◌, replicate, pos}
 use Rattle.entries.specs.Entries.{laid, first_of, second_of, weight_of}
 use Rattle.entries.proofs.split.Given as goal
 

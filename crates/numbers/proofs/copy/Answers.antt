@@ -1,4 +1,4 @@
-use Rattle.std.proofs.Common.{refl, sym, ◌∙◌, ◌-◌, arith, length-set}
+use Rattle.std.proofs.Common.{refl, sym, ◌∙◌, arith, length-set}
 use Rattle.laws.proofs.Windows.{copy_next, copy_end}
 use Rattle.numbers.proofs.copy.Goals as goal
 

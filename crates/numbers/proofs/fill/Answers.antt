@@ -1,4 +1,4 @@
-use Rattle.std.proofs.Common.{rules, refl, ◌∙◌, ◌-◌, arith, length-set}
+use Rattle.std.proofs.Common.{rules, refl, ◌∙◌, arith, length-set}
 use Rattle.laws.proofs.Windows.{fill_more, fill_all}
 use Rattle.numbers.proofs.fill.Goals as goal
 

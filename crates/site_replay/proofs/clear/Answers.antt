@@ -1,4 +1,4 @@
-use Rattle.std.proofs.Common.{refl, ◌-◌, length-set}
+use Rattle.std.proofs.Common.{refl, length-set}
 use Rattle.site_replay.proofs.clear.Goals as goal
 
 pub loop-i-init : goal.loop-i-init

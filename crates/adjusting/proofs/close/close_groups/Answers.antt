@@ -1,4 +1,4 @@
-use Rattle.std.proofs.Common.{refl, sym, ◌∙◌, ◌*◌, ◌-◌, arith, take}
+use Rattle.std.proofs.Common.{refl, sym, ◌∙◌, ◌*◌, arith, take}
 use Rattle.laws.specs.Run.{ok, fault}
 use Rattle.laws.proofs.Runs.{told}
 use Rattle.matching.specs.Graph.{graph_of}

@@ -1,4 +1,4 @@
-use Rattle.std.proofs.Common.{rules, refl, ◌∙◌, ◌-◌, arith}
+use Rattle.std.proofs.Common.{rules, refl, ◌∙◌, arith}
 use borrow.Author.Tests.{not-true, not-false}
 use Rattle.laws.proofs.Runs.{told}
 use Rattle.matching.specs.Graph.{is_odd}
@@ -8,11 +8,6 @@ use Rattle.steps.specs.Stores.{with_parents, with_mates}
 use Rattle.augment.specs.View.{lists, held, rooted, below, at_place}
 use Rattle.augment.proofs.RingLaws.{ring_of, place_below}
 use Rattle.augment.proofs.TurnLaws.{child_node, child_group, deep_none, deeper, round_node, round_none, round_row, ring_stop, ring_spent, ring_broken, ring_pass, two_lost, two_found, pools_kept, positive}
-use Rattle.augment.proofs.turn.turn_child.Reads as turn_child
-use Rattle.augment.proofs.turn.turn_group.Reads as turn_group
-use Rattle.augment.proofs.turn.turn_ring.Reads as turn_ring
-use Rattle.augment.proofs.turn.turn_round.Reads as turn_round
-use Rattle.augment.proofs.turn.turn_two.Reads as turn_two
 use Rattle.augment.proofs.turn.+turn_child_turn_group_turn_ring_turn_round_turn_two.Goals as goal
 
 pub turn_child-returns-then-number-n : goal.turn_child-returns-then-number-n

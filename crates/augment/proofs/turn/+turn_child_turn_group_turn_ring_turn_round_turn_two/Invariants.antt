@@ -1,4 +1,4 @@
-use Rattle.std.proofs.Common.{◌≡◌, List, ◌+◌, ◌*◌, ◌-◌, ◌≤◌, length, ◌<◌}
+use Rattle.std.proofs.Common.{◌≡◌, List, ◌+◌, ◌*◌, ◌≤◌, length, ◌<◌}
 use Rattle.matching.specs.Graph.{Edge}
 use Rattle.numbers.specs.Edges.{ends_of}
 use Rattle.steps.specs.State.{State}

@@ -1,4 +1,4 @@
-use Rattle.std.proofs.Common.{refl, sym, ◌∙◌, ◌-◌, arith, rules}
+use Rattle.std.proofs.Common.{refl, sym, ◌∙◌, arith, rules}
 use Rattle.laws.proofs.Runs.{told}
 use Rattle.numbers.specs.View.{got_group}
 use Rattle.augment.proofs.TurnLaws.{holding_torn, holding_here, holding_spent, holding_lost, holding_up}

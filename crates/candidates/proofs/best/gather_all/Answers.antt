@@ -1,4 +1,4 @@
-use Rattle.std.proofs.Common.{refl, ◌∙◌, ◌-◌, ◌≤◌, arith}
+use Rattle.std.proofs.Common.{refl, ◌∙◌, ◌≤◌, arith}
 use Rattle.candidates.proofs.GatherLaws.{after_at, collecting_start, collecting_next, collecting_bad, collecting_end}
 use Rattle.candidates.proofs.best.gather_all.Goals as goal
 

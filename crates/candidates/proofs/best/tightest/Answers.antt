@@ -1,4 +1,4 @@
-use Rattle.std.proofs.Common.{rules, refl, sym, ap, ◌∙◌, ◌-◌, arith}
+use Rattle.std.proofs.Common.{rules, refl, sym, ap, ◌∙◌, arith}
 use Rattle.laws.specs.Run.{ok, fault}
 use Rattle.laws.proofs.Runs.{told, for_each_next, for_each_end}
 use Rattle.numbers.specs.View.{got_edge}

@@ -1,4 +1,4 @@
-use Rattle.std.proofs.Common.{rules, refl, ◌∙◌, ◌-◌, ◌/◌, ◌≤◌, arith}
+use Rattle.std.proofs.Common.{rules, refl, ◌∙◌, ◌/◌, ◌≤◌, arith}
 use Rattle.steps.specs.Add.{consider}
 use Rattle.candidates.proofs.GatherLaws.{after_at, going_start, going_next, going_bad, going_end}
 use Rattle.candidates.proofs.gathering.consider_ends.Goals as goal

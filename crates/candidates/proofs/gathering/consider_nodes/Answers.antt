@@ -1,4 +1,4 @@
-use Rattle.std.proofs.Common.{rules, refl, ◌∙◌, ◌-◌, ◌<◌, ◌≤◌, arith}
+use Rattle.std.proofs.Common.{rules, refl, ◌∙◌, ◌<◌, ◌≤◌, arith}
 use Rattle.laws.proofs.Lists.{each_at}
 use Rattle.steps.specs.Add.{consider_at}
 use Rattle.candidates.proofs.GatherLaws.{after_at, going_start, going_next, going_bad, going_end}

@@ -1,4 +1,4 @@
-use Rattle.std.proofs.Common.{rules, ◌≡◌, refl, sym, ap, ◌∙◌, List, ◌∷◌, [], ◌++◌, ℕ, ◌-◌, add-one, arith, get_or, length-set, take-suc, take-suc-set}
+use Rattle.std.proofs.Common.{rules, ◌≡◌, refl, sym, ap, ◌∙◌, List, ◌∷◌, [], ◌++◌, ℕ, add-one, arith, get_or, length-set, take-suc, take-suc-set}
 use Rattle.candidates.proofs.rows.copy.Goals as goal
 
 pub loop-k-init : goal.loop-k-init

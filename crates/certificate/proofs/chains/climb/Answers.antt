@@ -1,4 +1,4 @@
-use Rattle.std.proofs.Common.{◌-◌, arith}
+use Rattle.std.proofs.Common.{arith}
 use Rattle.certificate.proofs.TableLaws.{rising_start, rising_few, rising_next, rising_end, row_small}
 use Rattle.certificate.proofs.chains.climb.Goals as goal
 

@@ -1,4 +1,3 @@
-use Rattle.std.proofs.Common.{◌-◌}
 use Rattle.certificate.proofs.TableLaws.{Shared}
 use Rattle.certificate.proofs.chains.common_duals.Given as goal
 

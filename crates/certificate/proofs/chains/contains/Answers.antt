@@ -1,4 +1,4 @@
-use Rattle.std.proofs.Common.{◌≡◌, refl, sym, ◌∙◌, ◌+◌, ◌*◌, ◌-◌, ◌<◌, arith, get_or}
+use Rattle.std.proofs.Common.{◌≡◌, refl, sym, ◌∙◌, ◌+◌, ◌*◌, ◌<◌, arith, get_or}
 use Rattle.laws.proofs.Loops.{find_here, find_next, find_none}
 use Rattle.certificate.proofs.TableLaws.{row_of, row_length, row_place, row_count, row_entry, row_meets}
 use Rattle.certificate.proofs.chains.contains.Goals as goal

@@ -1,4 +1,4 @@
-use Rattle.std.proofs.Common.{refl, ◌∙◌, ◌-◌, arith, length-set}
+use Rattle.std.proofs.Common.{refl, ◌∙◌, arith, length-set}
 use Rattle.certificate.proofs.TableLaws.{filled_next}
 use Rattle.certificate.proofs.chains.fill_chains.Goals as goal
 

@@ -1,4 +1,4 @@
-use Rattle.std.proofs.Common.{refl, sym, ◌∙◌, ◌*◌, ◌-◌, arith}
+use Rattle.std.proofs.Common.{refl, sym, ◌∙◌, ◌*◌, arith}
 use Rattle.certificate.specs.Groups.{group_fits}
 use Rattle.laws.proofs.Loops.{all_from, all_next, all_stop, all_end}
 use Rattle.certificate.proofs.groups.groups_pass.Goals as goal

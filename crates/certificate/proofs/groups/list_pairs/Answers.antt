@@ -1,4 +1,4 @@
-use Rattle.std.proofs.Common.{◌≡◌, refl, ◌-◌, arith, length, length-set}
+use Rattle.std.proofs.Common.{◌≡◌, refl, arith, length, length-set}
 use Rattle.laws.specs.Lists.{keep, range}
 use Rattle.certificate.proofs.GroupLaws.{list_next, bit_few}
 use Rattle.certificate.proofs.groups.list_pairs.Goals as goal

@@ -1,4 +1,4 @@
-use Rattle.std.proofs.Common.{refl, ◌-◌, arith}
+use Rattle.std.proofs.Common.{refl, arith}
 use Rattle.laws.specs.Lists.{bit}
 use Rattle.laws.proofs.Lists.{each_at}
 use Rattle.certificate.specs.Groups.{inside_by, within_by}

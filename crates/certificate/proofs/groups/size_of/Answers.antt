@@ -1,4 +1,4 @@
-use Rattle.std.proofs.Common.{◌-◌, arith}
+use Rattle.std.proofs.Common.{arith}
 use Rattle.laws.specs.Lists.{bit}
 use Rattle.matching.specs.Certificate.{meets, contains, size}
 use Rattle.laws.proofs.Loops.{sum_start, sum_next, sum_end}

@@ -1,4 +1,4 @@
-use Rattle.std.proofs.Common.{refl, sym, ap, ◌∙◌, ◌-◌, arith, pos, get_or, w64}
+use Rattle.std.proofs.Common.{refl, sym, ap, ◌∙◌, arith, pos, get_or, w64}
 use mir.ValLaws.{to_z-of_z}
 use Rattle.certificate.specs.View.{intake_of, cause_of}
 use Rattle.certificate.proofs.IntakeLaws.{intake_next, intake_stop, intake_end}

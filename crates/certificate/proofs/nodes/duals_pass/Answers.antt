@@ -1,4 +1,4 @@
-use Rattle.std.proofs.Common.{refl, sym, ◌∙◌, ◌-◌, arith, pos, get_or, w64}
+use Rattle.std.proofs.Common.{refl, sym, ◌∙◌, arith, pos, get_or, w64}
 use mir.ValLaws.{to_z-of_z}
 use Rattle.certificate.proofs.ListLaws.{dual_test_lem}
 use Rattle.laws.proofs.Loops.{all_start, all_next, all_stop, all_end}

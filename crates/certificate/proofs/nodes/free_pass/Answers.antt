@@ -1,4 +1,4 @@
-use Rattle.std.proofs.Common.{sym, ◌∙◌, ◌-◌, arith, pos, get_or, w64}
+use Rattle.std.proofs.Common.{sym, ◌∙◌, arith, pos, get_or, w64}
 use mir.ValLaws.{to_z-of_z}
 use Rattle.certificate.proofs.SignedLaws.{near_fits}
 use Rattle.certificate.proofs.ListLaws.{free_test_lem}

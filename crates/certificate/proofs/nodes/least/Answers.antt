@@ -1,4 +1,4 @@
-use Rattle.std.proofs.Common.{◌-◌, arith, rules, pos, get_or, w64}
+use Rattle.std.proofs.Common.{arith, rules, pos, get_or, w64}
 use mir.ValLaws.{to_z-of_z}
 use Rattle.laws.specs.Integers.{least}
 use Rattle.certificate.proofs.SignedLaws.{least_start, least_turn, least_over, near_fits}

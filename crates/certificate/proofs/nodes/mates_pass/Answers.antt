@@ -1,4 +1,4 @@
-use Rattle.std.proofs.Common.{sym, ◌∙◌, ◌-◌, arith}
+use Rattle.std.proofs.Common.{sym, ◌∙◌, arith}
 use Rattle.laws.proofs.Loops.{all_start, all_next, all_stop, all_end}
 use Rattle.certificate.proofs.nodes.mates_pass.Goals as goal
 

@@ -1,4 +1,4 @@
-use Rattle.std.proofs.Common.{refl, ◌-◌, arith, rules, w64}
+use Rattle.std.proofs.Common.{refl, arith, rules, w64}
 use mir.ValLaws.{to_z-of_z}
 use Rattle.certificate.proofs.SignedLaws.{below_zero, from_zero}
 use Rattle.certificate.proofs.SlackLaws.{passing_start, passing_low, passing_next, passing_loose, passing_fit}

@@ -1,4 +1,4 @@
-use Rattle.std.proofs.Common.{◌+◌, ◌-◌, ◌≤◌, length, drop, ◌≡◌}
+use Rattle.std.proofs.Common.{◌+◌, ◌≤◌, length, drop, ◌≡◌}
 use Rattle.edges.specs.Neighbours.{Counted}
 use Rattle.edges.proofs.neighbours.count_ends.Given as goal
 

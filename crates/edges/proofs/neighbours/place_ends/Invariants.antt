@@ -1,4 +1,4 @@
-use Rattle.std.proofs.Common.{◌+◌, ◌-◌, ◌≤◌, length, ◌≡◌}
+use Rattle.std.proofs.Common.{◌+◌, ◌≤◌, length, ◌≡◌}
 use Rattle.edges.proofs.Placing.{Placed}
 use Rattle.edges.proofs.neighbours.place_ends.Given as goal
 

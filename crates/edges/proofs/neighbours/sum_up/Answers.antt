@@ -1,4 +1,4 @@
-use Rattle.std.proofs.Common.{rules, ◌≡◌, refl, ◌+◌, ◌-◌, arith, length-set}
+use Rattle.std.proofs.Common.{rules, ◌≡◌, refl, ◌+◌, arith, length-set}
 use Rattle.edges.specs.Neighbours.{sum_to}
 use Rattle.edges.proofs.Counts.{summing_none, sum_next, summing_more, summing_end, sum_mono}
 use Rattle.edges.proofs.neighbours.sum_up.Goals as goal

@@ -1,4 +1,4 @@
-use Rattle.std.proofs.Common.{refl, ◌∙◌, ◌-◌, arith}
+use Rattle.std.proofs.Common.{refl, ◌∙◌, arith}
 use Rattle.numbers.proofs.Entries.{agrees, agrees_fault}
 use Rattle.expand.proofs.FreeLaws.{bring_next, bring_bad, bring_end}
 use Rattle.expand.proofs.free.bring_top.Goals as goal

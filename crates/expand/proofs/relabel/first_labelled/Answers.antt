@@ -1,4 +1,4 @@
-use Rattle.std.proofs.Common.{refl, ◌-◌, arith}
+use Rattle.std.proofs.Common.{refl, arith}
 use Rattle.laws.proofs.Runs.{told}
 use Rattle.numbers.specs.View.{got_of}
 use Rattle.steps.specs.Stores.{with_labels}

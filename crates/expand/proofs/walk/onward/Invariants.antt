@@ -1,4 +1,4 @@
-use Rattle.std.proofs.Common.{◌≡◌, List, ◌*◌, ◌-◌, ◌<◌, length, take}
+use Rattle.std.proofs.Common.{◌≡◌, List, ◌*◌, ◌<◌, length, take}
 use Rattle.laws.specs.Run.{while}
 use Rattle.matching.specs.Graph.{Edge, graph_of}
 use Rattle.numbers.specs.Edges.{ends_of}

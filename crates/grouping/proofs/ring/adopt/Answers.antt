@@ -1,4 +1,4 @@
-use Rattle.std.proofs.Common.{rules, refl, sym, ap, ◌∙◌, ℕ, ◌-◌, ◌<◌, arith, length}
+use Rattle.std.proofs.Common.{rules, refl, sym, ap, ◌∙◌, ℕ, ◌<◌, arith, length}
 use Rattle.laws.specs.Run.{ok, fault}
 use Rattle.laws.proofs.Runs.{for_each_next, for_each_end}
 use Rattle.numbers.proofs.Entries.{agrees, agrees_fault}

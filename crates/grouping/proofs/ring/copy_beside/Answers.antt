@@ -1,4 +1,4 @@
-use Rattle.std.proofs.Common.{rules, ◌≡◌, refl, sym, ap, ◌∙◌, ℕ, suc, ◌+◌, ◌-◌, arith, List, ◌++◌, map, get_or-take, take-take, get_or, take, length-set, length-take}
+use Rattle.std.proofs.Common.{rules, ◌≡◌, refl, sym, ap, ◌∙◌, ℕ, suc, ◌+◌, arith, List, ◌++◌, map, get_or-take, take-take, get_or, take, length-set, length-take}
 use Rattle.matching.specs.Graph.{beside}
 use Rattle.grouping.proofs.RingLaws.{map_more, on_none}
 use Rattle.grouping.proofs.ring.copy_beside.Goals as goal

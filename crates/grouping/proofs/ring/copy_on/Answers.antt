@@ -1,4 +1,4 @@
-use Rattle.std.proofs.Common.{rules, ◌≡◌, refl, sym, ap, ◌∙◌, ℕ, suc, ◌+◌, ◌-◌, arith, List, ◌++◌, get_or-take, take-take, get_or, take, length-set, length-take}
+use Rattle.std.proofs.Common.{rules, ◌≡◌, refl, sym, ap, ◌∙◌, ℕ, suc, ◌+◌, arith, List, ◌++◌, get_or-take, take-take, get_or, take, length-set, length-take}
 use Rattle.grouping.proofs.RingLaws.{on_more, on_none}
 use Rattle.grouping.proofs.ring.copy_on.Goals as goal
 

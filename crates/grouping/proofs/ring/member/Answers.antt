@@ -1,4 +1,4 @@
-use Rattle.std.proofs.Common.{rules, refl, sym, ◌∙◌, ◌-◌, arith}
+use Rattle.std.proofs.Common.{rules, refl, sym, ◌∙◌, arith}
 use Rattle.grouping.proofs.RingLaws.{member_end, member_here, member_next}
 use Rattle.grouping.proofs.ring.member.Goals as goal
 

@@ -1,4 +1,4 @@
-use Rattle.std.proofs.Common.{rules, refl, sym, ◌∙◌, ◌-◌, arith}
+use Rattle.std.proofs.Common.{rules, refl, sym, ◌∙◌, arith}
 use Rattle.grouping.proofs.RingLaws.{repeats_end, repeats_here, repeats_next}
 use Rattle.grouping.proofs.ring.repeats.Goals as goal
 

@@ -1,5 +1,4 @@
 use Rattle.std.proofs.Common.{sym, ◌∙◌}
-use Rattle.laws.specs.Run.{at}
 use Rattle.laws.proofs.Runs.{told}
 use Rattle.numbers.specs.View.{got_node}
 use Rattle.steps.specs.Label.{base_mate}

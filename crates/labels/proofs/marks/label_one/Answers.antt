@@ -1,5 +1,4 @@
 use Rattle.std.proofs.Common.{take}
-use Rattle.laws.specs.Run.{at}
 use Rattle.laws.proofs.Runs.{told}
 use Rattle.numbers.specs.View.{got_group}
 use Rattle.numbers.proofs.Entries.{counted_last}

@@ -1,4 +1,4 @@
-use Rattle.std.proofs.Common.{refl, ◌-◌, arith, length-set}
+use Rattle.std.proofs.Common.{refl, arith, length-set}
 use Rattle.plan.proofs.EndLaws.{laid_more, laid_all}
 use Rattle.plan.proofs.lists.lay_ends.Goals as goal
 

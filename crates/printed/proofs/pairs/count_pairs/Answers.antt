@@ -1,4 +1,4 @@
-use Rattle.std.proofs.Common.{◌≡◌, sym, ap, ◌∙◌, ℕ, ◌-◌, arith, length}
+use Rattle.std.proofs.Common.{◌≡◌, sym, ap, ◌∙◌, ℕ, arith, length}
 use Rattle.laws.specs.Lists.{range}
 use Rattle.certificate.specs.Lists.{lent}
 use Rattle.printed.specs.Answer.{pairs_at}

@@ -1,4 +1,4 @@
-use Rattle.std.proofs.Common.{◌≡◌, refl, sym, ap, subst, ◌∙◌, List, ◌++◌, ℕ, ◌-◌, arith}
+use Rattle.std.proofs.Common.{◌≡◌, refl, sym, ap, subst, ◌∙◌, List, ◌++◌, ℕ, arith}
 use Rattle.laws.specs.Lists.{range}
 use Rattle.certificate.specs.Lists.{lent}
 use Rattle.printed.specs.Answer.{Pair, pairs_at, pair_lines}

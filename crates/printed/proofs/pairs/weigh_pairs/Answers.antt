@@ -1,4 +1,4 @@
-use Rattle.std.proofs.Common.{◌≡◌, sym, ap, subst, ◌∙◌, ℕ, ◌-◌, ◌<◌, arith, w64, to_z}
+use Rattle.std.proofs.Common.{◌≡◌, sym, ap, subst, ◌∙◌, ℕ, ◌<◌, arith, w64, to_z}
 use Rattle.laws.specs.Lists.{range}
 use Rattle.certificate.specs.Lists.{lent}
 use Rattle.printed.specs.Answer.{pair_at, pairs_at}

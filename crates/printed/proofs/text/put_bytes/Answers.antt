@@ -1,4 +1,4 @@
-use Rattle.std.proofs.Common.{◌≡◌, refl, ap, ◌∙◌, ℕ, ◌-◌, arith, length, take}
+use Rattle.std.proofs.Common.{◌≡◌, refl, ap, ◌∙◌, ℕ, arith, length, take}
 use lib.Seq.{take-length}
 use Rattle.printed.proofs.Texts.{put_nothing, put_then, put_same, one_more}
 use Rattle.printed.proofs.text.put_bytes.Goals as goal

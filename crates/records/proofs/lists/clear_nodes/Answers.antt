@@ -1,4 +1,4 @@
-use Rattle.std.proofs.Common.{refl, ◌∙◌, ◌-◌, arith, length-set}
+use Rattle.std.proofs.Common.{refl, ◌∙◌, arith, length-set}
 use Rattle.records.proofs.Laws.{wiped_none, wiped_more, wiped_all}
 use Rattle.records.proofs.lists.clear_nodes.Goals as goal
 

@@ -1,4 +1,4 @@
-use Rattle.std.proofs.Common.{refl, ◌∙◌, ◌-◌, arith, length-set}
+use Rattle.std.proofs.Common.{refl, ◌∙◌, arith, length-set}
 use Rattle.laws.proofs.Windows.{fill_more, fill_all}
 use Rattle.records.specs.Site.{untimed}
 use Rattle.records.proofs.lists.clear_times.Goals as goal

@@ -1,4 +1,4 @@
-use Rattle.std.proofs.Common.{refl, sym, ◌∙◌, subst, ◌-◌, zero-le, arith, length}
+use Rattle.std.proofs.Common.{refl, sym, ◌∙◌, subst, zero-le, arith, length}
 use borrow.Author.Tests.{not-true, not-false}
 use Rattle.laws.proofs.Runs.{told}
 use Rattle.records.specs.Site.{read_from, start_at, ended, budget_of}

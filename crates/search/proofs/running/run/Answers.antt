@@ -1,4 +1,4 @@
-use Rattle.std.proofs.Common.{rules, refl, sym, ap, ◌∙◌, arith, ℕ, ◌*◌, ◌-◌, length, w64}
+use Rattle.std.proofs.Common.{rules, refl, sym, ap, ◌∙◌, arith, ℕ, ◌*◌, length, w64}
 use mir.ValLaws.{to_z-of_z}
 use Rattle.numbers.proofs.EdgeLaws.{length_weights_of}
 use Rattle.whole.specs.Ran.{outcome_of}

@@ -1,4 +1,4 @@
-use Rattle.std.proofs.Common.{◌≡◌, List, ◌-◌, ◌≤◌, nat_abs, length, drop}
+use Rattle.std.proofs.Common.{◌≡◌, List, ◌≤◌, nat_abs, length, drop}
 use Rattle.matching.specs.Graph.{Edge}
 use Rattle.numbers.specs.Edges.{weights_of}
 use Rattle.steps.specs.Ends.{top_weight}

@@ -1,4 +1,4 @@
-use Rattle.std.proofs.Common.{ℕ, ◌-◌, ◌≡◌, refl, sym, ◌∙◌, List, arith, length, get_or, length-set}
+use Rattle.std.proofs.Common.{ℕ, ◌≡◌, refl, sym, ◌∙◌, List, arith, length, get_or, length-set}
 use Rattle.laws.specs.Lists.{range}
 use Rattle.laws.proofs.Lists.{length_range, get_or_range}
 use Rattle.laws.proofs.Windows.{write_more, write_all}

@@ -1,4 +1,4 @@
-use Rattle.std.proofs.Common.{◌*◌, ◌-◌, arith}
+use Rattle.std.proofs.Common.{◌*◌, arith}
 use Rattle.steps.specs.Adjust.{delta4_at}
 use Rattle.stages.specs.View.{delta_of, grouped}
 use Rattle.stages.proofs.Ranges.{range_start, range_next, range_end}

@@ -1,4 +1,4 @@
-use Rattle.std.proofs.Common.{rules, ◌-◌, arith, w64, to_z}
+use Rattle.std.proofs.Common.{rules, arith, w64, to_z}
 use mir.ValLaws.{to_z-of_z}
 use Rattle.stages.proofs.Amounts.{entry_plain, least_start, least_none, least_next, least_end}
 use Rattle.stages.proofs.delta.least_dual.Goals as goal

@@ -1,6 +1,5 @@
-use Rattle.std.proofs.Common.{rules, refl, ◌∙◌, ◌-◌, ◌/◌, arith, get_or, length-set, w64, to_z}
+use Rattle.std.proofs.Common.{rules, refl, ◌∙◌, ◌/◌, arith, get_or, length-set, w64, to_z}
 use mir.ValLaws.{to_z-of_z}
-use Rattle.laws.specs.Run.{at}
 use Rattle.laws.proofs.Runs.{told}
 use Rattle.matching.specs.Graph.{graph_of}
 use Rattle.numbers.specs.View.{got_group}

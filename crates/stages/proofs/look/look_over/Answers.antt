@@ -1,6 +1,6 @@
 use Rattle.std.proofs.Common.{ap, ◌∙◌, false, ◌/◌, arith, w64}
 use mir.ValLaws.{to_z-of_z}
-use Rattle.laws.specs.Run.{ok, at}
+use Rattle.laws.specs.Run.{ok}
 use Rattle.laws.proofs.Runs.{told}
 use Rattle.laws.proofs.Windows.{at_in}
 use Rattle.numbers.specs.View.{got_of}

@@ -1,4 +1,4 @@
-use Rattle.std.proofs.Common.{◌≡◌, refl, ◌∙◌, false, ◌-◌, arith, length, length-set}
+use Rattle.std.proofs.Common.{◌≡◌, refl, ◌∙◌, false, arith, length, length-set}
 use Rattle.laws.proofs.Windows.{fill_more, fill_all}
 use Rattle.stages.proofs.open.forbid.Goals as goal
 

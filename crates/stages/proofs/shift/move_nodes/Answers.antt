@@ -1,4 +1,4 @@
-use Rattle.std.proofs.Common.{refl, sym, ◌∙◌, ◌-◌, arith, w64, to_z, of_z}
+use Rattle.std.proofs.Common.{refl, sym, ◌∙◌, arith, w64, to_z, of_z}
 use mir.ValLaws.{to_z-of_z}
 use Rattle.laws.specs.Run.{ok, fault}
 use Rattle.numbers.proofs.Entries.{agrees, agrees_fault}

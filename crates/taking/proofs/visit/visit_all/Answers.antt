@@ -1,4 +1,4 @@
-use Rattle.std.proofs.Common.{refl, sym, subst, ◌∙◌, ℕ, ◌-◌, arith}
+use Rattle.std.proofs.Common.{refl, sym, subst, ◌∙◌, ℕ, arith}
 use Rattle.laws.proofs.Runs.{told}
 use Rattle.matching.specs.Graph.{graph_of, is_group}
 use Rattle.steps.specs.State.{Phase, searching, closing}
