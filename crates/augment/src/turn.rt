@@ -87,7 +87,7 @@ fn reroot(
 }
 
 // Group b is turned so that node v is its base; groups nest at most `depth` deep.
-#[cycle(turn_child_turn_group_turn_ring_turn_round_turn_two)]
+#[cycle(turn)]
 fn turn_group(
     ends: &[u16],
     parents: &[u16],
@@ -122,7 +122,7 @@ fn turn_group(
 }
 
 // A child that is a group is turned; a node is left as it is.
-#[cycle(turn_child_turn_group_turn_ring_turn_round_turn_two)]
+#[cycle(turn)]
 pub(crate) fn turn_child(
     ends: &[u16],
     parents: &[u16],
@@ -148,7 +148,7 @@ pub(crate) fn turn_child(
 }
 
 // The ring of group b, entered by child t: round to its first child, and then rotated.
-#[cycle(turn_child_turn_group_turn_ring_turn_round_turn_two)]
+#[cycle(turn)]
 fn turn_round(
     ends: &[u16],
     parents: &[u16],
@@ -187,7 +187,7 @@ fn turn_round(
 }
 
 // From the child at place i to the first, two children at a time: at most 2n times.
-#[cycle(turn_child_turn_group_turn_ring_turn_round_turn_two)]
+#[cycle(turn)]
 fn turn_ring(
     ends: &[u16],
     parents: &[u16],
@@ -226,7 +226,7 @@ fn turn_ring(
 }
 
 // The children at places one and two are turned, and the edge between them is matched.
-#[cycle(turn_child_turn_group_turn_ring_turn_round_turn_two)]
+#[cycle(turn)]
 fn turn_two(
     ends: &[u16],
     parents: &[u16],

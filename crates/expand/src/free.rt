@@ -123,7 +123,7 @@ pub(crate) fn retire(
 
 // At the end of a stage: child c has no parent, a node is its own outermost group, and a group with dual 0 is expanded in its turn.
 // The answer is how many numbers are free then.
-#[cycle(expand_last_free_last)]
+#[cycle(free)]
 fn free_last(
     parents: &mut [u16],
     tops: &mut [u16],
@@ -172,7 +172,7 @@ fn free_last(
 }
 
 // Group b, and its child groups with dual 0, at the end of a stage; the answer is how many numbers are free then.
-#[cycle(expand_last_free_last)]
+#[cycle(free)]
 pub fn expand_last(
     parents: &mut [u16],
     tops: &mut [u16],

@@ -5,7 +5,7 @@ use Rattle.matching.specs.Graph.{Edge, graph_of}
 use Rattle.steps.specs.State.{State}
 use Rattle.expand.specs.View.{emptied}
 use Rattle.expand.proofs.FreeLaws.{freeing}
-use Rattle.expand.proofs.free.+expand_last_free_last.Given as goal
+use Rattle.expand.proofs.free.+free.Given as goal
 
 abbrev pub decreases-expand_last : goal.decreases-expand_last
 decreases-expand_last l = 2 * l.depth

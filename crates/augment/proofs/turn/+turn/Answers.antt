@@ -8,7 +8,7 @@ use Rattle.steps.specs.Stores.{with_parents, with_mates}
 use Rattle.augment.specs.View.{lists, held, rooted, below, at_place}
 use Rattle.augment.proofs.RingLaws.{ring_of, place_below}
 use Rattle.augment.proofs.TurnLaws.{child_node, child_group, deep_none, deeper, round_node, round_none, round_row, ring_stop, ring_spent, ring_broken, ring_pass, two_lost, two_found, pools_kept, positive}
-use Rattle.augment.proofs.turn.+turn_child_turn_group_turn_ring_turn_round_turn_two.Goals as goal
+use Rattle.augment.proofs.turn.+turn.Goals as goal
 
 pub turn_child-returns-then-number-n : goal.turn_child-returns-then-number-n
 turn_child-returns-then-number-n t c =

@@ -12,7 +12,7 @@ use Rattle.steps.specs.Stores.{with_duals}
 use Rattle.steps.specs.Expand.{keep_child}
 use Rattle.expand.specs.View.{ringed, topped, retired, emptied}
 use Rattle.expand.proofs.FreeLaws.{freeing, expand_deep, expand_out, expand_over, child_lost, node_lost, node_own, group_lost, group_opened, group_stays, zero_bits, other_bits}
-use Rattle.expand.proofs.free.+expand_last_free_last.Goals as goal
+use Rattle.expand.proofs.free.+free.Goals as goal
 
 pub expand_last-returns-then-depth-eq0 : goal.expand_last-returns-then-depth-eq0
 expand_last-returns-then-depth-eq0 t c =

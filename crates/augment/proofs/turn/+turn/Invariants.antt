@@ -3,7 +3,7 @@ use Rattle.matching.specs.Graph.{Edge}
 use Rattle.numbers.specs.Edges.{ends_of}
 use Rattle.steps.specs.State.{State}
 use Rattle.augment.specs.View.{Pools, lists, held, turned_ring}
-use Rattle.augment.proofs.turn.+turn_child_turn_group_turn_ring_turn_round_turn_two.Given as goal
+use Rattle.augment.proofs.turn.+turn.Given as goal
 
 abbrev pub decreases-turn_child : goal.decreases-turn_child
 decreases-turn_child l = 5 * l.depth + 1
