@@ -19,7 +19,7 @@ unfoldable pub digits : (most : ℕ) → ℕ → List ℕ
 digits zero x = []
 digits (suc most) x =
     let front = digits most (x / 10) in
-    if ltb x 10 then digit x ∷ [] else front ++ (digit (x % 10) ∷ [])
+    if ltb x 10 then digit x ∷ [] else (front ++ (digit (x % 10) ∷ []))
 
 -- a number has no more digits than its value and one
 unfoldable pub decimal : ℕ → List ℕ
