@@ -1,5 +1,5 @@
--- The laws of rings, of re-rooting, of the path and of the mates.
+pub mod Passes
+pub mod ClimbLaws
 pub mod RingLaws
-pub mod TurnLaws
-pub mod MateLaws
 pub mod TrailLaws
+pub mod MateLaws

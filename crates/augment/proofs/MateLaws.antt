@@ -1,103 +1,82 @@
--- Laws of the test that each mate names back, in the form of the code's tests.
-use mathlib.Core.Path.{◌≡◌, refl, sym, ap, ◌∙◌}
-use mathlib.Core.Bool.{Bool, true, false}
-use mathlib.Core.List.{List, [], ◌∷◌}
-use Prim.Native.Nat.{ℕ, zero, suc, ◌*◌, ◌<◌, ◌≤◌}
-use native.Mathlib.Omega.{arith}
+-- The test that each mate names back, one law for each way through the code's test of a node, and for each pass over the nodes.
+use Rattle.std.proofs.Common.{◌≡◌, ◌≢◌, ◌*◌, ℕ, zero, suc, List, [], ◌∷◌, Bool, true, false, eqb, ltb, refl, arith, sym}
 use borrow.Author.Tests.{eq-eqb, ne_eqb, ltb-true, ltb-false}
-use lib.Dec.{eqb, ltb}
-use lib.ListN.{length, get_or}
+use Rattle.laws.specs.Lists.{all, range}
 use Rattle.laws.specs.Run.{ok, fault, and_then, must, at}
+use Rattle.laws.proofs.Loops.{all_next, all_stop, all_end}
 use Rattle.laws.proofs.Runs.{not_ok, ok_inj}
-use Rattle.laws.proofs.Windows.{at_found, at_value}
+use Rattle.laws.proofs.Windows.{at_value}
 use Rattle.matching.specs.Certificate.{mate_of}
-use Rattle.matching.specs.Graph.{Edge, graph_of, missing, is_missing, beside, node_at}
-use Rattle.matching.specs.Tests.{mate_test}
-use Rattle.numbers.specs.Edges.{ends_of}
-use Rattle.numbers.proofs.EdgeLaws.{at_ends_of, beside_in}
+use Rattle.matching.specs.Graph.{Graph, edge_count, missing, is_missing, beside, node_at}
+use Rattle.matching.specs.Tests.{mate_test, mates_pass}
+use Rattle.steps.specs.Ends.{endpoint}
+use Rattle.numbers.proofs.EdgeLaws.{beside_in}
 
--- ---- reads
+-- ---- the mate of a node
 
-get_or_out : (xs : List ℕ) (i d : ℕ) → at xs i ≡ fault → get_or xs i d ≡ d
-unfolding at
-get_or_out [] i d e = refl
-get_or_out (y ∷ ys) zero d e = not_ok (sym e)
-get_or_out (y ∷ ys) (suc i) d e = get_or_out ys i d e
+pub mate_there : (mates : List ℕ) (v p : ℕ) → at mates v ≡ ok p → mate_of mates v ≡ p
+unfolding mate_of
+mate_there mates v p e = sym (at_value mates v missing e)
 
-module _ (n : ℕ) (edges : List Edge) (ends : List ℕ) (h : ends_of edges ≡ ends) (p : ℕ) where
-  end_read : and_then (must (ltb p (2 * length edges))) (λ _. ok (node_at (graph_of n edges) p)) ≡ at ends p
-  end_read = at_ends_of n edges p ∙ ap (λ (l : List ℕ). at l p) h
+pub mate_none : (mates : List ℕ) (v : ℕ) → at mates v ≡ fault → mate_of mates v ≡ missing
+unfolding mate_of at
+mate_none [] v e = refl
+mate_none (x ∷ xs) zero e = not_ok (sym e)
+mate_none (x ∷ xs) (suc v) e = mate_none xs v e
 
-  end_in : (x : ℕ) → at ends p ≡ ok x → (ltb p (2 * length edges) ≡ true) × (node_at (graph_of n edges) p ≡ x)
-  end_in x e = go (ltb p (2 * length edges)) refl (end_read ∙ e)
-    where
-      go : (t : Bool) → ltb p (2 * length edges) ≡ t → and_then (must t) (λ _. ok (node_at (graph_of n edges) p)) ≡ ok x
-          → (ltb p (2 * length edges) ≡ true) × (node_at (graph_of n edges) p ≡ x)
-      go true q r = (q, ok_inj r)
-      go false q r = not_ok r
+pub ruleset told = (mate_there, mate_none)
 
-  end_out : at ends p ≡ fault → ltb p (2 * length edges) ≡ false
-  end_out e = go (ltb p (2 * length edges)) refl (end_read ∙ e)
-    where
-      go : (t : Bool) → ltb p (2 * length edges) ≡ t → and_then (must t) (λ _. ok (node_at (graph_of n edges) p)) ≡ fault → ltb p (2 * length edges) ≡ false
-      go true q r = not_ok (sym r)
-      go false q r = q
+-- ---- the test of a node
 
--- ---- the mate of one node
+end_in : (G : Graph) (p x : ℕ) → endpoint G p ≡ ok x → (ltb p (2 * edge_count G) ≡ true) × (node_at G p ≡ x)
+unfolding endpoint
+end_in G p x e = go (ltb p (2 * edge_count G)) refl e
+  where
+    go : (t : Bool) → ltb p (2 * edge_count G) ≡ t → and_then (must t) (λ _. ok (node_at G p)) ≡ ok x
+        → (ltb p (2 * edge_count G) ≡ true) × (node_at G p ≡ x)
+    go true q r = (q, ok_inj r)
+    go false q r = not_ok r
 
-module _ (n : ℕ) (edges : List Edge) (ends mates : List ℕ) (h : ends_of edges ≡ ends) (v : ℕ) where
-  pub mate_none : at mates v ≡ fault → true ≡ mate_test (graph_of n edges) mates v
-  unfolding mate_test mate_of
-  mate_none e = rw (get_or_out mates v missing e)
+end_out : (G : Graph) (p : ℕ) → endpoint G p ≡ fault → ltb p (2 * edge_count G) ≡ false
+unfolding endpoint
+end_out G p e = go (ltb p (2 * edge_count G)) refl e
+  where
+    go : (t : Bool) → ltb p (2 * edge_count G) ≡ t → and_then (must t) (λ _. ok (node_at G p)) ≡ fault → ltb p (2 * edge_count G) ≡ false
+    go true q r = not_ok (sym r)
+    go false q r = q
 
-  module _ (m : ℕ) (e : at mates v ≡ ok m) where
-    pub mate_missing : is_missing m ≡ true → true ≡ mate_test (graph_of n edges) mates v
-    unfolding mate_test mate_of
-    mate_missing q = rw (← at_value mates v missing e, q)
+module _ (G : Graph) (mates : List ℕ) (v m : ℕ) (h : m ≡ mate_of mates v) where
+  pub test_missing : is_missing m ≡ true → mate_test G mates v ≡ true
+  unfolding mate_test
+  test_missing e = rw (← h, e)
 
-    module _ (on : is_missing m ≡ false) where
-      pub mate_lost : at ends m ≡ fault → false ≡ mate_test (graph_of n edges) mates v
-      unfolding mate_test mate_of
-      mate_lost q = rw (← at_value mates v missing e, on, end_out n edges ends h m q)
+  module _ (on : is_missing m ≡ false) where
+    pub test_lost : endpoint G m ≡ fault → mate_test G mates v ≡ false
+    unfolding mate_test
+    test_lost e = rw (← h, on, end_out G m e)
 
-      module _ (b : ℕ) (f : at ends m ≡ ok b) where
-        pub mate_half : at ends (beside m) ≡ fault → false ≡ mate_test (graph_of n edges) mates v
-        mate_half q =
-            let less : m < 2 * length edges = ltb-true m (2 * length edges) (end_in n edges ends h m b f).0 in
-            let more : 2 * length edges ≤ beside m = ltb-false (beside m) (2 * length edges) (end_out n edges ends h (beside m) q) in
-            let no_way : ⊥ = omega (arith, beside_in m (length edges) less) in
-            absurd no_way
+    module _ (b : ℕ) (f : endpoint G m ≡ ok b) where
+      pub test_half : endpoint G (beside m) ≡ fault → mate_test G mates v ≡ false
+      test_half e =
+          let less = ltb-true m (2 * edge_count G) (end_in G m b f).0 in
+          let more = ltb-false (beside m) (2 * edge_count G) (end_out G (beside m) e) in
+          let no_way : ⊥ = omega (arith, beside_in m (edge_count G) less, more) in absurd no_way
 
-        module _ (a : ℕ) (g : at ends (beside m) ≡ ok a) where
-          pub mate_other : (a ≡ v → ⊥) → false ≡ mate_test (graph_of n edges) mates v
-          unfolding mate_test mate_of
-          mate_other d = rw (← at_value mates v missing e, on, (end_in n edges ends h m b f).0, (end_in n edges ends h (beside m) a g).1, ne_eqb a v d)
+      module _ (a : ℕ) (g : endpoint G (beside m) ≡ ok a) where
+        pub test_other : a ≢ v → mate_test G mates v ≡ false
+        unfolding mate_test
+        test_other d = rw (← h, on, (end_in G m b f).0, (end_in G _ a g).1, ne_eqb a v d)
 
-          module _ (same : a ≡ v) where
-            pub mate_free : length ends ≤ 65535 → at mates b ≡ fault → false ≡ mate_test (graph_of n edges) mates v
-            unfolding mate_test mate_of
-            mate_free l q =
-                let far : missing ≡ beside m → ⊥ = λ z. omega (arith, at_found ends (beside m) g) in
-                rw (
-                  ← at_value mates v missing e,
-                  on,
-                  (end_in n edges ends h m b f).0,
-                  (end_in n edges ends h (beside m) a g).1,
-                  eq-eqb a v same,
-                  (end_in n edges ends h m b f).1,
-                  get_or_out mates b missing q,
-                  ne_eqb missing (beside m) far,
-                )
+        pub test_back : a ≡ v → mate_test G mates v ≡ eqb (mate_of mates b) (beside m)
+        unfolding mate_test
+        test_back s = rw (← h, on, (end_in G m b f).0, (end_in G _ a g).1, eq-eqb a v s, (end_in G m b f).1)
 
-            pub mate_back : (back : ℕ) → at mates b ≡ ok back → eqb back (beside m) ≡ mate_test (graph_of n edges) mates v
-            unfolding mate_test mate_of
-            mate_back back q =
-                rw (
-                  ← at_value mates v missing e,
-                  on,
-                  (end_in n edges ends h m b f).0,
-                  (end_in n edges ends h (beside m) a g).1,
-                  eq-eqb a v same,
-                  (end_in n edges ends h m b f).1,
-                  ← at_value mates b missing q,
-                )
+pub ruleset tests = (test_missing, test_lost, test_half, test_other, test_back)
+
+-- ---- the test of each node, from node v of n on
+
+pub pass_start : (G : Graph) (mates : List ℕ) → mates_pass G mates ≡ all (mate_test G mates) (range 0 G.nodes)
+unfolding mates_pass
+pass_start G mates = refl
+
+pub ruleset passes = (pass_start, all_next, all_stop, all_end)

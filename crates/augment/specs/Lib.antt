@@ -1,3 +1,3 @@
--- What the lists and answers stand for, in re-rooting and along a path.
-pub mod View
-pub mod Path
+-- What the answers of these routines stand for.
+pub mod Trails
+pub mod Turns

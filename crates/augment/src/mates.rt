@@ -1,45 +1,49 @@
-// The test that each mate names back, over the list of ends.
-ghost use Rattle.std.specs.Prelude.{◌≡◌, List, ℕ, ◌≤◌, length};
-ghost use Rattle.matching.specs.Graph.{Edge as EdgeOf, graph_of};
-ghost use Rattle.matching.specs.Tests.{mate_test, mates_pass};
-ghost use Rattle.numbers.specs.Edges.{ends_of};
+// The test that each mate names back.
+ghost use Rattle.std.specs.Prelude.{◌≡◌};
+ghost use Rattle.matching.specs.Certificate.{mate_of as mate_of_list};
+ghost use Rattle.matching.specs.Tests.{mate_test, mates_pass as mates_pass_of};
 
-use numbers::{Got, GotEnd, GotNode, Node, end_in, get, node_in};
+use edges::graph::Graph;
+use numbers::{End, MISSING, Node};
+use state::lists::Lists;
 
-// The mate of node v is missing, or an end whose other end is v and whose node has that other end as mate.
-fn mate_fits(ends: &[u16], mates: &[u16], v: Node) -> bool
-    requires { length ends.now ≤ 65535 }
-    ensures { (n : ℕ) (edges : List EdgeOf) → ends_of edges ≡ ends.now → result ≡ mate_test (graph_of n edges) mates.now v.0 }
+// The mate of node v, missing where there is no such node.
+#[tactic(auto, using(crate::proofs::MateLaws::told))]
+fn mate_of(lists: &Lists, v: Node) -> End
+    ensures { result.0 ≡ mate_of_list lists.now.pairing.lists.mates v.0 }
 {
-    let GotEnd::At(m) = end_in(mates, v.number()) else {
-        return true;
-    };
+    lists.mate(v).unwrap_or(End(MISSING))
+}
+
+// The mate of node v is missing, or an end whose other end is v and whose node has that other end as mate. A bool and no Result: it is a
+// test, as in the definition.
+#[tactic(auto, using(crate::proofs::MateLaws::tests))]
+fn mate_fits(g: &Graph, lists: &Lists, v: Node) -> bool
+    ensures { result ≡ mate_test g.now lists.now.pairing.lists.mates v.0 }
+{
+    let m = mate_of(lists, v);
     if m.is_missing() {
         return true;
     }
-    let GotNode::At(b) = node_in(ends, m.number()) else {
+    let Ok(b) = g.endpoint(m) else {
         return false;
     };
-    let q = m.beside();
-    let GotNode::At(a) = node_in(ends, q.number()) else {
+    let Ok(a) = g.endpoint(m.beside()) else {
         return false;
     };
-    if a.number() != v.number() {
+    if a != v {
         return false;
     }
-    let Got::At(back) = get(mates, b.number()) else {
-        return false;
-    };
-    back == q.number()
+    mate_of(lists, b) == m.beside()
 }
 
-// The mate of each of n nodes fits.
-pub(crate) fn mates_pass(ends: &[u16], mates: &[u16], n: u16) -> bool
-    requires { length ends.now ≤ 65535 }
-    ensures { (edges : List EdgeOf) → ends_of edges ≡ ends.now → result ≡ mates_pass (graph_of n edges) mates.now }
+// The mate of each node fits.
+#[tactic(auto, using(crate::proofs::MateLaws::passes))]
+pub(crate) fn mates_pass(g: &Graph, lists: &Lists) -> bool
+    ensures { result ≡ mates_pass_of g.now lists.now.pairing.lists.mates }
 {
-    for v in 0..n {
-        if !mate_fits(ends, mates, Node(v)) {
+    for v in 0..g.nodes() {
+        if !mate_fits(g, lists, Node(v)) {
             return false;
         }
     }

@@ -1,272 +1,196 @@
-// Re-rooting a group. The group's routine turns the child that holds the new base, goes round the ring to its first child, two children
-// at a time, and rotates the ring; a child that is a group is turned by the group's routine again, and the depth falls.
-ghost use Rattle.std.specs.Prelude.{◌≡◌, List, ℕ, ◌*◌, ◌-◌, ◌<◌, ◌≤◌, length};
-ghost use Rattle.laws.specs.Run.{only_if};
-ghost use Rattle.matching.specs.Graph.{Edge, graph_of, is_group, is_odd};
-ghost use Rattle.numbers.specs.Edges.{ends_of};
-ghost use Rattle.numbers.specs.View.{got_group, Agrees};
-ghost use Rattle.steps.specs.Augment.{child_holding, match_end, reroot as reroot_of, turning_move, augment_group};
-ghost use Rattle.steps.specs.Ring.{around as around_of};
-ghost use Rattle.steps.specs.State.{State};
-ghost use Rattle.steps.specs.Stores.{with_mates};
-ghost use Rattle.augment.specs.View.{Pools, Ring, rooted, lists, Turns, below, at_place, turned_ring, turned_round};
+// A group is turned so that a node of it is its base, child by child, by routines that call one another with a falling depth.
+ghost use Rattle.std.specs.Prelude.{◌≡◌, ◌*◌, ◌<◌, length, IfOk};
+ghost use Rattle.laws.specs.Run.{at as at_of};
+ghost use Rattle.matching.specs.Graph.{is_group, is_odd};
+ghost use Rattle.steps.specs.Ring.{rotate};
+ghost use Rattle.steps.specs.State.{Progress};
+ghost use Rattle.steps.specs.Augment.{child_holding as child_holding_of, match_end as match_end_of, reroot as reroot_of, turn_child as turn_child_of, turning_move, turn_group as turn_group_of, augment_group, augment_top as augment_top_of};
+ghost use Rattle.numbers.specs.Answers.{Agrees, AnswersGroup};
+ghost use Rattle.state.specs.Parts.{state_of, sized};
+ghost use Rattle.augment.specs.Turns.{below, at_place, round, Places};
 
-use crate::ring::{around, child_at, link_end, place_of, rotate};
-use numbers::pools::row_len;
-use numbers::{End, Got, GotEnd, GotGroup, GotNode, Group, Node, get, group_in, node_in, store};
+use edges::graph::Graph;
+use numbers::faults::{Fault, must, present, read};
+use numbers::{End, Group, Node};
+use state::lists::Lists;
+use state::places::{around, link_end, place_of};
 
 // From node v up to the child of group b that holds it, by the parents: at most 2n moves.
-fn child_holding(parents: &[u16], n: u16, b: Group, v: Node) -> GotGroup
-    requires { n ≤ 512 }
-    ensures { got_group result ≡ child_holding parents.now (2 * n) b.0 v.0 }
+#[tactic(auto, using(crate::proofs::ClimbLaws::climbs), unfolding(steps::specs::Augment::child_holding))]
+fn child_holding(g: &Graph, lists: &Lists, b: Group, v: Node) -> Result<Group, Fault>
+    ensures { AnswersGroup (child_holding_of lists.now.forest.lists.parents (2 * g.now.nodes) b.0 v.0) result }
 {
-    let up = b.number();
     let mut t = v.alone();
-    let mut left = 2 * n;
-    loop {
-        let GotGroup::At(p) = group_in(parents, t.number()) else {
-            return GotGroup::Out;
-        };
-        if p.number() == up {
-            return GotGroup::At(t);
+    for _ in 0..g.numbers() {
+        let p = lists.parent(t)?;
+        if p == b {
+            return Ok(t);
         }
-        if left == 0 {
-            return GotGroup::Out;
-        }
-        if p.is_missing() {
-            return GotGroup::Out;
-        }
-        left = left - 1;
+        present(p.0)?;
         t = p;
     }
+    let p = lists.parent(t)?;
+    must(p == b)?;
+    Ok(t)
 }
 
 // The edge with end p is matched.
-fn match_end(ends: &[u16], mates: &mut [u16], p: End) -> bool
-    ensures { (n : ℕ) (edges : List Edge) → ends_of edges ≡ ends.now → (s : State) → Agrees (match_end (graph_of n edges) p.0 (with_mates mates.old s)) result (with_mates mates.new s) }
+#[tactic(auto, unfolding(steps::specs::Augment::match_end))]
+fn match_end(g: &Graph, lists: &mut Lists, p: End) -> Result<(), Fault>
+    ensures said { (at : Progress) → Agrees (match_end_of g.now p.0 (state_of lists.old at)) result (state_of lists.new at) }
+    ensures size { sized lists.new ≡ sized lists.old }
 {
-    let e = p.number();
-    let other = p.beside();
-    let f = other.number();
-    let Got::At(a) = get(ends, e) else {
-        return false;
-    };
-    let Got::At(b) = get(ends, f) else {
-        return false;
-    };
-    if !store(mates, a, f) {
-        return false;
-    }
-    store(mates, b, e)
+    let a = g.endpoint(p)?;
+    let b = g.endpoint(p.beside())?;
+    lists.put_mate(a, p.beside())?;
+    lists.put_mate(b, p)?;
+    Ok(())
 }
 
-// The child at place i is the group's first, and its base, which is v, the group's.
-fn reroot(
-    kids: &mut [u16],
-    links: &mut [u16],
-    bases: &mut [u16],
-    n: u16,
-    b: Group,
-    m: u16,
-    i: u16,
-    v: Node,
-) -> bool
-    requires { (length kids.old ≡ n * n) × (length links.old ≡ n * n) × (i < m) × (m ≤ n) × (n ≤ b.0) × (b.0 < 2 * n) }
-    ensures { (counts : List ℕ) → Ring n counts b.0 m → (s : State) → Agrees (reroot_of b.0 i v.0 (rooted n counts kids.old links.old bases.old s)) result (rooted n counts kids.new links.new bases.new s) }
+// The child at place i of a ring.
+fn child_at(kids: &[u16], i: u16) -> Result<Group, Fault>
+    ensures said { AnswersGroup (at_of kids.now i) result }
+    ensures near { IfOk result (λ c. i < length kids.now) }
 {
-    rotate(kids, n, b, m, i);
-    rotate(links, n, b, m, i);
-    let c = child_at(kids, n, b, m, 0);
-    let Got::At(base) = get(bases, c.number()) else {
-        return false;
-    };
-    if !store(bases, b.number(), base) {
-        return false;
-    }
-    base == v.number()
+    let c = read(kids, i)?;
+    Ok(Group(c))
 }
 
-// Group b is turned so that node v is its base; groups nest at most `depth` deep.
-#[cycle(turn)]
-fn turn_group(
-    ends: &[u16],
-    parents: &[u16],
-    counts: &[u16],
-    kids: &mut [u16],
-    links: &mut [u16],
-    bases: &mut [u16],
-    mates: &mut [u16],
-    n: u16,
-    b: Group,
-    v: Node,
+// The first child of a ring with place i first.
+#[tactic(auto, using(crate::proofs::RingLaws::firsts))]
+fn first_from(kids: &[u16], i: u16) -> Result<Group, Fault>
+    ensures { AnswersGroup (at_of (rotate i kids.now) 0) result }
+{
+    if (i as usize) < kids.len() {
+        return child_at(kids, i);
+    }
+    child_at(kids, 0)
+}
+
+// The child at place i is the group's first, and its base, which is to be v, the group's.
+#[tactic(auto, unfolding(steps::specs::Augment::reroot))]
+fn reroot(lists: &mut Lists, b: Group, i: u16, v: Node) -> Result<(), Fault>
+    ensures said { (at : Progress) → Agrees (reroot_of b.0 i v.0 (state_of lists.old at)) result (state_of lists.new at) }
+    ensures size { sized lists.new ≡ sized lists.old }
+{
+    // Read before the rings turn; that there is no child is a fault only after.
+    let kids = lists.children(b)?;
+    let first = first_from(kids, i);
+    lists.ring_ends(b)?;
+    lists.turn_children(b, i);
+    lists.turn_ring_ends(b, i);
+    let c = first?;
+    let base = lists.base(c)?;
+    lists.put_base(b, base)?;
+    must(base == v)?;
+    Ok(())
+}
+
+// The child c, entered at end p, is turned where it is a group.
+#[cycle(turning)]
+#[tactic(auto, unfolding(steps::specs::Augment::turn_child))]
+fn turn_child(g: &Graph, lists: &mut Lists, depth: u16, c: Group, p: End) -> Result<(), Fault>
+    ensures said { (at : Progress) → Agrees (turn_child_of is_group g.now (below g.now depth) c.0 p.0 (state_of lists.old at)) result (state_of lists.new at) }
+    ensures size { sized lists.new ≡ sized lists.old }
+{
+    let v = g.endpoint(p)?;
+    if c.0 >= g.nodes() {
+        turn_group(g, lists, depth, c, v)?;
+    }
+    Ok(())
+}
+
+// The next two children are turned, and the edge between them is matched; the answer is the second one's place.
+#[cycle(turning)]
+#[tactic(auto, unfolding(steps::specs::Augment::turning_move))]
+fn turn_two(
+    g: &Graph,
+    lists: &mut Lists,
     depth: u16,
-) -> bool
-    requires { Pools n counts.now kids.old links.old }
-    ensures { Turns n ends.now parents.now counts.now (lists kids.old links.old bases.old mates.old) (lists kids.new links.new bases.new mates.new) (λ s. s) (λ edges s. augment_group is_group (graph_of n edges) depth b.0 v.0 s) result }
-{
-    if depth == 0 {
-        return false;
-    }
-    let down = depth - 1;
-    let GotGroup::At(t) = child_holding(parents, n, b, v) else {
-        return false;
-    };
-    if !turn_child(
-        ends, parents, counts, kids, links, bases, mates, n, t, v, down,
-    ) {
-        return false;
-    }
-    turn_round(
-        ends, parents, counts, kids, links, bases, mates, n, b, t, v, down,
-    )
-}
-
-// A child that is a group is turned; a node is left as it is.
-#[cycle(turn)]
-pub(crate) fn turn_child(
-    ends: &[u16],
-    parents: &[u16],
-    counts: &[u16],
-    kids: &mut [u16],
-    links: &mut [u16],
-    bases: &mut [u16],
-    mates: &mut [u16],
-    n: u16,
-    c: Group,
-    v: Node,
-    depth: u16,
-) -> bool
-    requires { Pools n counts.now kids.old links.old }
-    ensures { Turns n ends.now parents.now counts.now (lists kids.old links.old bases.old mates.old) (lists kids.new links.new bases.new mates.new) (λ s. s) (λ edges s. only_if (is_group n c.0) (below n depth edges c.0 v.0) s) result }
-{
-    if c.number() < n {
-        return true;
-    }
-    turn_group(
-        ends, parents, counts, kids, links, bases, mates, n, c, v, depth,
-    )
-}
-
-// The ring of group b, entered by child t: round to its first child, and then rotated.
-#[cycle(turn)]
-fn turn_round(
-    ends: &[u16],
-    parents: &[u16],
-    counts: &[u16],
-    kids: &mut [u16],
-    links: &mut [u16],
-    bases: &mut [u16],
-    mates: &mut [u16],
-    n: u16,
     b: Group,
-    t: Group,
-    v: Node,
-    depth: u16,
-) -> bool
-    requires { Pools n counts.now kids.old links.old }
-    ensures { Turns n ends.now parents.now counts.now (lists kids.old links.old bases.old mates.old) (lists kids.new links.new bases.new mates.new) (λ s. s) (turned_round n depth b.0 t.0 v.0) result }
+    forward: bool,
+    place: u16,
+) -> Result<u16, Fault>
+    requires { place < 65535 }
+    ensures said { (at : Progress) → Places (turning_move is_group g.now (below g.now depth) b.0 forward (at_place place (state_of lists.old at))) result (state_of lists.new at) }
+    ensures size { sized lists.new ≡ sized lists.old }
+    ensures near { IfOk result (λ j. j < 65535) }
 {
-    let x = b.number();
-    if x < n {
-        return false;
-    }
-    let g = x - n;
-    if g >= n {
-        return false;
-    }
-    let m = row_len(counts, n, g);
-    let Got::At(i) = place_of(kids, n, b, m, t) else {
-        return false;
-    };
-    if !turn_ring(
-        ends, parents, counts, kids, links, bases, mates, n, b, m, i, depth,
-    ) {
-        return false;
-    }
-    reroot(kids, links, bases, n, b, m, i, v)
+    let kids = lists.children(b)?;
+    let ends = lists.ring_ends(b)?;
+    let len = kids.len() as u16;
+    let i = around(forward, len, place);
+    let p = link_end(forward, ends, i)?;
+    let c = child_at(kids, i)?;
+    let j = around(forward, len, i);
+    // Read before the first is turned; that there is no second is a fault only after.
+    let second = child_at(kids, j);
+    turn_child(g, lists, depth, c, p)?;
+    let d = second?;
+    turn_child(g, lists, depth, d, p.beside())?;
+    match_end(g, lists, p)?;
+    Ok(j)
 }
 
 // From the child at place i to the first, two children at a time: at most 2n times.
-#[cycle(turn)]
-fn turn_ring(
-    ends: &[u16],
-    parents: &[u16],
-    counts: &[u16],
-    kids: &mut [u16],
-    links: &mut [u16],
-    bases: &mut [u16],
-    mates: &mut [u16],
-    n: u16,
-    b: Group,
-    m: u16,
-    i: u16,
-    depth: u16,
-) -> bool
-    requires { Pools n counts.now kids.old links.old × Ring n counts.now b.0 m × (i < m) }
-    ensures { Turns n ends.now parents.now counts.now (lists kids.old links.old bases.old mates.old) (lists kids.new links.new bases.new mates.new) (at_place 0) (turned_ring n depth b.0 (is_odd i) (2 * n) i) result }
+#[cycle(turning)]
+#[tactic(auto, using(crate::proofs::RingLaws::ring_turns))]
+fn turn_ring(g: &Graph, lists: &mut Lists, depth: u16, b: Group, i: u16) -> Result<(), Fault>
+    requires { i < 65535 }
+    ensures said { (at : Progress) → Agrees (round g.now depth b.0 (is_odd i) (2 * g.now.nodes) i (state_of lists.old at)) result (at_place 0 (state_of lists.new at)) }
+    ensures size { sized lists.new ≡ sized lists.old }
 {
-    let forward = i % 2 == 1;
     let mut place = i;
-    let mut left = 2 * n;
-    while place != 0 {
-        if left == 0 {
-            return false;
+    for _ in 0..g.numbers() {
+        if place == 0 {
+            return Ok(());
         }
-        left = left - 1;
-        let one = around(forward, m, place);
-        let two = around(forward, m, one);
-        if !turn_two(
-            ends, parents, counts, kids, links, bases, mates, n, b, m, forward, one, two, depth,
-        ) {
-            return false;
-        }
-        place = two;
+        place = turn_two(g, lists, depth, b, i % 2 == 1, place)?;
     }
-    true
+    must(place == 0)?;
+    Ok(())
 }
 
-// The children at places one and two are turned, and the edge between them is matched.
-#[cycle(turn)]
-fn turn_two(
-    ends: &[u16],
-    parents: &[u16],
-    counts: &[u16],
-    kids: &mut [u16],
-    links: &mut [u16],
-    bases: &mut [u16],
-    mates: &mut [u16],
-    n: u16,
-    b: Group,
-    m: u16,
-    forward: bool,
-    one: u16,
-    two: u16,
-    depth: u16,
-) -> bool
-    requires { Pools n counts.now kids.old links.old × Ring n counts.now b.0 m × (one < m) × (two < m) }
-    ensures { (place : ℕ) → one ≡ around_of forward m place → two ≡ around_of forward m one → Turns n ends.now parents.now counts.now (lists kids.old links.old bases.old mates.old) (lists kids.new links.new bases.new mates.new) (at_place two) (λ edges s. turning_move is_group (graph_of n edges) (below n depth edges) b.0 forward (at_place place s)) result }
+// One level of group b: the child that holds node v is turned, the ring from it to the first child, and the group re-rooted.
+#[cycle(turning)]
+#[tactic(auto, unfolding(steps::specs::Augment::turn_group))]
+fn turn_level(g: &Graph, lists: &mut Lists, depth: u16, b: Group, v: Node) -> Result<(), Fault>
+    ensures said { (at : Progress) → Agrees (turn_group_of is_group g.now (below g.now depth) b.0 v.0 (state_of lists.old at)) result (state_of lists.new at) }
+    ensures size { sized lists.new ≡ sized lists.old }
 {
-    let GotEnd::At(p) = link_end(links, n, b, m, forward, one) else {
-        return false;
-    };
-    let c = child_at(kids, n, b, m, one);
-    let d = child_at(kids, n, b, m, two);
-    let GotNode::At(v) = node_in(ends, p.number()) else {
-        return false;
-    };
-    if !turn_child(
-        ends, parents, counts, kids, links, bases, mates, n, c, v, depth,
-    ) {
-        return false;
+    let t = child_holding(g, lists, b, v)?;
+    if t.0 >= g.nodes() {
+        turn_group(g, lists, depth, t, v)?;
     }
-    let q = p.beside();
-    let GotNode::At(w) = node_in(ends, q.number()) else {
-        return false;
-    };
-    if !turn_child(
-        ends, parents, counts, kids, links, bases, mates, n, d, w, depth,
-    ) {
-        return false;
+    let kids = lists.children(b)?;
+    let i = place_of(kids, t)?;
+    turn_ring(g, lists, depth, b, i)?;
+    reroot(lists, b, i, v)?;
+    Ok(())
+}
+
+// Group b is turned so that node v is its base; groups nest at most `depth` deep.
+#[cycle(turning)]
+#[tactic(auto, using(crate::proofs::RingLaws::levels))]
+fn turn_group(g: &Graph, lists: &mut Lists, depth: u16, b: Group, v: Node) -> Result<(), Fault>
+    ensures said { (at : Progress) → Agrees (augment_group is_group g.now depth b.0 v.0 (state_of lists.old at)) result (state_of lists.new at) }
+    ensures size { sized lists.new ≡ sized lists.old }
+{
+    if depth == 0 {
+        return Err(Fault);
     }
-    match_end(ends, mates, p)
+    turn_level(g, lists, depth - 1, b, v)?;
+    Ok(())
+}
+
+// Group b, where it is one, is turned so that node v is its base.
+#[tactic(auto, unfolding(steps::specs::Augment::augment_top))]
+pub(crate) fn augment_top(g: &Graph, lists: &mut Lists, b: Group, v: Node) -> Result<(), Fault>
+    ensures said { (at : Progress) → Agrees (augment_top_of is_group g.now b.0 v.0 (state_of lists.old at)) result (state_of lists.new at) }
+    ensures size { sized lists.new ≡ sized lists.old }
+{
+    if b.0 >= g.nodes() {
+        turn_group(g, lists, g.nodes(), b, v)?;
+    }
+    Ok(())
 }

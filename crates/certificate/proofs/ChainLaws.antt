@@ -68,7 +68,8 @@ module _ (parents : List ℕ) where
   meets_member (suc k) i B = go (is_missing (parent_of parents i)) (meets_member k (parent_of parents i) B)
     where
       go : (t : Bool) → meets parents k (parent_of parents i) B ≡ member B (chain parents k (parent_of parents i))
-          → (not t && (eqb (parent_of parents i) B || meets parents k (parent_of parents i) B)) ≡ member B (if t then [] else parent_of parents i ∷ chain parents k (parent_of parents i))
+          → (not t && (eqb (parent_of parents i) B || meets parents k (parent_of parents i) B))
+          ≡ member B (if t then [] else parent_of parents i ∷ chain parents k (parent_of parents i))
       go true e = refl
       go false e = rw e
 
@@ -77,7 +78,8 @@ module _ (parents : List ℕ) where
   chain_length zero i = zero-le
   chain_length (suc k) i = go (is_missing (parent_of parents i)) (chain_length k (parent_of parents i))
     where
-      go : (t : Bool) → length (chain parents k (parent_of parents i)) ≤ k → length (if t then [] else parent_of parents i ∷ chain parents k (parent_of parents i)) ≤ suc k
+      go : (t : Bool) → length (chain parents k (parent_of parents i)) ≤ k
+          → length (if t then [] else parent_of parents i ∷ chain parents k (parent_of parents i)) ≤ suc k
       go true h = zero-le
       go false h = omega arith
 
@@ -89,9 +91,11 @@ module _ (parents : List ℕ) where
   chain_same (suc k) zero i p q = rw (is_true {t = is_missing (parent_of parents i)} q)
   chain_same (suc k) (suc j) i p q = go (is_missing (parent_of parents i)) (λ a b. chain_same k j (parent_of parents i) a b) p q
     where
-      go : (t : Bool) → (T (climb_ends parents k (parent_of parents i)) → T (climb_ends parents j (parent_of parents i)) → chain parents k (parent_of parents i) ≡ chain parents j (parent_of parents i))
+      go : (t : Bool) → (T (climb_ends parents k (parent_of parents i)) → T (climb_ends parents j (parent_of parents i))
+          → chain parents k (parent_of parents i) ≡ chain parents j (parent_of parents i))
           → T (t || climb_ends parents k (parent_of parents i)) → T (t || climb_ends parents j (parent_of parents i))
-          → (if t then [] else parent_of parents i ∷ chain parents k (parent_of parents i)) ≡ (if t then [] else parent_of parents i ∷ chain parents j (parent_of parents i))
+          → (if t then [] else parent_of parents i ∷ chain parents k (parent_of parents i))
+          ≡ (if t then [] else parent_of parents i ∷ chain parents j (parent_of parents i))
       go true f a b = refl
       go false f a b = ap {B = List ℕ} (λ r. parent_of parents i ∷ r) (f a b)
 
@@ -111,14 +115,23 @@ module _ (parents : List ℕ) where
   split (suc k) i g e m = go (is_missing (parent_of parents i)) (λ a b. split k (parent_of parents i) g a b) e m
     where
       Rest : Type 0
-      Rest = T (climb_ends parents k (parent_of parents i)) → T (member g (chain parents k (parent_of parents i))) → Split (chain parents k (parent_of parents i)) g
+      Rest = T (climb_ends parents k (parent_of parents i)) → T (member g (chain parents k (parent_of parents i)))
+          → Split (chain parents k (parent_of parents i)) g
 
-      there : (t : Bool) → (T t → parent_of parents i ≡ g) → Rest → T (climb_ends parents k (parent_of parents i)) → T (t || member g (chain parents k (parent_of parents i)))
+      there : (t : Bool) → (T t → parent_of parents i ≡ g) → Rest → T (climb_ends parents k (parent_of parents i))
+          → T (t || member g (chain parents k (parent_of parents i)))
           → Split (parent_of parents i ∷ chain parents k (parent_of parents i)) g
-      there true f r e m = record { ahead = []; moves = k; ends = subst (λ (x : ℕ). T (climb_ends parents k x)) (f tt) e; is = ap {B = List ℕ} (λ (x : ℕ). x ∷ chain parents k x) (f tt) }
+      there true f r e m = record {
+        ahead = [];
+        moves = k;
+        ends = subst (λ (x : ℕ). T (climb_ends parents k x)) (f tt) e;
+        is = ap {B = List ℕ}
+            (λ (x : ℕ). x ∷ chain parents k x) (f tt);
+      }
       there false f r e m = split_later (parent_of parents i) g (chain parents k (parent_of parents i)) (r e m)
 
-      go : (t : Bool) → Rest → T (t || climb_ends parents k (parent_of parents i)) → T (member g (if t then [] else parent_of parents i ∷ chain parents k (parent_of parents i)))
+      go : (t : Bool) → Rest → T (t || climb_ends parents k (parent_of parents i))
+          → T (member g (if t then [] else parent_of parents i ∷ chain parents k (parent_of parents i)))
           → Split (if t then [] else parent_of parents i ∷ chain parents k (parent_of parents i)) g
       go true r e m = absurd m
       go false r e m = there (eqb (parent_of parents i) g) (eqb→eq (parent_of parents i) g) r e m
@@ -128,7 +141,8 @@ module _ (parents : List ℕ) where
   no_return k p e m =
       let s = split k p p e m in
       let same : chain parents s.moves p ≡ chain parents k p = chain_same s.moves k p s.ends e in
-      let long : length (chain parents k p) ≡ length s.ahead + length (p ∷ chain parents s.moves p) = ap length s.is ∙ length-append s.ahead (p ∷ chain parents s.moves p) in
+      let long : length (chain parents k p) ≡ length s.ahead + length (p ∷ chain parents s.moves p) = ap length s.is
+      ∙ length-append s.ahead (p ∷ chain parents s.moves p) in
       omega (arith, ap length same)
 
   pub chain_distinct : (k i : ℕ) → T (climb_ends parents k i) → Distinct (chain parents k i)
@@ -136,7 +150,8 @@ module _ (parents : List ℕ) where
   chain_distinct zero i e = tt
   chain_distinct (suc k) i e = go (is_missing (parent_of parents i)) (λ a. chain_distinct k (parent_of parents i) a) e
     where
-      go : (t : Bool) → (T (climb_ends parents k (parent_of parents i)) → Distinct (chain parents k (parent_of parents i))) → T (t || climb_ends parents k (parent_of parents i)) → Distinct (if t then [] else parent_of parents i ∷ chain parents k (parent_of parents i))
+      go : (t : Bool) → (T (climb_ends parents k (parent_of parents i)) → Distinct (chain parents k (parent_of parents i)))
+          → T (t || climb_ends parents k (parent_of parents i)) → Distinct (if t then [] else parent_of parents i ∷ chain parents k (parent_of parents i))
       go true r e = tt
       go false r e = (no_return k (parent_of parents i) e, r e)
 
@@ -161,7 +176,9 @@ module _ (n : ℕ) (parents : List ℕ) (named : Named n parents) where
   chain_groups zero i h = tt
   chain_groups (suc k) i h = go (is_missing (parent_of parents i)) (parent_group i h) (λ g. chain_groups k (parent_of parents i) (omega (arith, g.1)))
     where
-      go : (t : Bool) → ((T t → ⊥) → InGroups (parent_of parents i)) → (InGroups (parent_of parents i) → Each InGroups (chain parents k (parent_of parents i))) → Each InGroups (if t then [] else parent_of parents i ∷ chain parents k (parent_of parents i))
+      go : (t : Bool) → ((T t → ⊥) → InGroups (parent_of parents i)) → (InGroups (parent_of parents i)
+          → Each InGroups (chain parents k (parent_of parents i))) → Each InGroups
+          (if t then [] else parent_of parents i ∷ chain parents k (parent_of parents i))
       go true f r = tt
       go false f r = let g = f (λ z. z) in (g, r g)
 
@@ -181,7 +198,8 @@ unfolding total range
 total_one f g x s zero l h z o = let no_way : ⊥ = omega arith in absurd no_way
 total_one f g x s (suc c) l h z o = go (eq-or-lt_of_le l) (λ (k : s < x). total_one f g x (suc s) c k (omega arith) z o)
   where
-    go : (s ≡ x) ⊎ (s < x) → (s < x → total (range (suc s) c) f ≡ f x +ℤ total (range (suc s) c) g) → f s +ℤ total (range (suc s) c) f ≡ f x +ℤ (g s +ℤ total (range (suc s) c) g)
+    go : (s ≡ x) ⊎ (s < x) → (s < x → total (range (suc s) c) f ≡ f x +ℤ total (range (suc s) c) g) → f s +ℤ total (range (suc s) c) f
+        ≡ f x +ℤ (g s +ℤ total (range (suc s) c) g)
     go (inl e) r = rw (e, z, +ℤ_idl) (ap (λ (w : ℤ). f x +ℤ w) (total_same f g (suc x) c (λ i k. o i (λ q. omega arith))))
     go (inr k) r = rw (o s (λ q. omega arith), r k) (past (g s) (f x) (total (range (suc s) c) g))
 
@@ -244,7 +262,8 @@ module _ (parents : List ℕ) (k a b : ℕ) (ea : T (climb_ends parents k a)) (e
         never h =
             ⊎_elim
             (λ z. omega arith)
-            (λ w. ⊎_elim (λ z. omega (arith, p.second_in, p.first_in, as_many, la, lb)) (λ n. n (entry (i - 1) (j - 1) (i - 1 - length pa) (omega arith) (omega (arith, p.second_in, p.first_in, as_many, la, lb)))) w)
+            (λ w. ⊎_elim (λ z. omega (arith, p.second_in, p.first_in, as_many, la, lb))
+            (λ n. n (entry (i - 1) (j - 1) (i - 1 - length pa) (omega arith) (omega (arith, p.second_in, p.first_in, as_many, la, lb)))) w)
             p.apart
 
         go : (t : Bool) → (T t → length pa < i) → (T (not t) → i ≤ length pa) → i ≤ length pa
@@ -263,17 +282,21 @@ module _ (parents : List ℕ) (k a b : ℕ) (ea : T (climb_ends parents k a)) (e
 
   pub both_member : (g : ℕ) → (member g (chain parents k a) && member g (chain parents k b)) ≡ member g (drop i (chain parents k a))
   both_member g = same_test (member g (chain parents k a) && member g (chain parents k b)) (member g (drop i (chain parents k a)))
-      (λ t. shared g (and_l (member g (chain parents k a)) (member g (chain parents k b)) t) (and_r (member g (chain parents k a)) (member g (chain parents k b)) t))
-      (λ t. and_i (member g (chain parents k a)) (member g (chain parents k b)) (member_drop g i (chain parents k a) t) (member_drop g j (chain parents k b) (subst (λ (l : List ℕ). T (member g l)) p.same t)))
+      (λ t. shared g (and_l (member g (chain parents k a)) (member g (chain parents k b)) t)
+      (and_r (member g (chain parents k a)) (member g (chain parents k b)) t))
+      (λ t. and_i (member g (chain parents k a)) (member g (chain parents k b)) (member_drop g i (chain parents k a) t)
+      (member_drop g j (chain parents k b) (subst (λ (l : List ℕ). T (member g l)) p.same t)))
 
 -- the duals of what is shared are those of all groups that contain both
-pub common_total : (n : ℕ) (parents : List ℕ) (duals : List ℤ) (a b i j : ℕ) → Climbing n parents → a < 2 * n → b < 2 * n → Parted (chain parents n a) (chain parents n b) i j
+pub common_total : (n : ℕ) (parents : List ℕ) (duals : List ℤ) (a b i j : ℕ) → Climbing n parents → a < 2 * n → b < 2 * n
+    → Parted (chain parents n a) (chain parents n b) i j
     → total (drop i (chain parents n a)) (dual_of duals) ≡ common_duals n duals parents a b
 unfolding common_duals
 common_total n parents duals a b i j c ha hb p =
     sym (total_held n (dual_of duals) (drop i (chain parents n a)) (distinct_drop i (chain parents n a) (chain_distinct parents n a (c.ends a ha)))
     (each_drop (λ g. (n ≤ g) × (g < n + n)) i (chain parents n a) (chain_groups n parents c.named n a ha)))
-    ∙ total_same (λ B. if member B (drop i (chain parents n a)) then dual_of duals B else pos 0) (λ B. if meets parents n a B && meets parents n b B then dual_of duals B else pos 0) n n
+    ∙ total_same (λ B. if member B (drop i (chain parents n a)) then dual_of duals B else pos 0)
+    (λ B. if meets parents n a B && meets parents n b B then dual_of duals B else pos 0) n n
     (λ B l. rw (meets_member parents n a B, meets_member parents n b B, both_member parents n a b (c.ends a ha) (c.ends b hb) i j p B))
 
 -- an entry of a chain is a group

@@ -1,10 +1,9 @@
 -- What the code reads is what the definition reads: the entries of lists, where the numbers are in range.
-use Rattle.std.specs.Prelude.{if◌then◌else◌}
 use mathlib.Core.Path.{◌≡◌, refl, sym, ◌∙◌}
-use mathlib.Core.Bool.{Bool, true, false, not, ◌&&◌, ◌||◌}
+use mathlib.Core.Bool.{Bool, true, not, ◌&&◌, ◌||◌}
 use mathlib.Core.Logic.{◌⊎◌, ⊎_elim}
 use mathlib.Core.List.{List, []}
-use Prim.Native.Nat.{ℕ, zero, suc, ◌+◌, ◌*◌, ◌-◌, ◌/◌, ◌<◌, ◌≤◌}
+use Prim.Native.Nat.{ℕ, zero, suc, ◌+◌, ◌*◌, ◌-◌, ◌<◌, ◌≤◌}
 use native.Mathlib.Omega.{arith}
 use borrow.Author.Tests.{eq-eqb, ne_eqb}
 use lib.Dec.{eqb}
@@ -13,23 +12,13 @@ use lib.ListN.{length, get_or}
 use Rattle.laws.specs.Integers.{is_zero}
 use Rattle.laws.specs.Lists.{all, range}
 use Rattle.laws.proofs.Decides.{Decides, equal, at_most, less, both, either, below, itself}
-use Rattle.matching.specs.Graph.{missing, is_missing, is_odd, node_at, first_of, second_of, weight_of, edge_count}
-use Rattle.matching.specs.Certificate.{parent_of, mate_of, dual_of, matched, offset}
+use Rattle.matching.specs.Graph.{missing, is_missing, first_of, second_of, weight_of, edge_count}
+use Rattle.matching.specs.Certificate.{parent_of, mate_of, dual_of, offset}
 use Rattle.matching.specs.Tests.{climb_ends, parent_test, dual_test, free_test}
 use Rattle.matching.proofs.Readings.{of_slices}
 use Rattle.certificate.specs.Chains.{Named, Climbing}
-use Rattle.certificate.specs.Lists.{Known, Weighed, lent, bare, end_node, parent_named, named_at, dual_fits, matched_by, certificate_of}
+use Rattle.certificate.specs.Lists.{Known, Weighed, lent, bare, parent_named, named_at, dual_fits, certificate_of}
 use Rattle.laws.proofs.Loops.{get_d_any, all_same, all_both, of_true}
-
--- ---- ends
-
-pub end_node_lem : (n : ℕ) (first second : List ℕ) (p : ℕ) → Known n first second → p < 2 * length first → end_node first second p < n
-unfolding end_node
-end_node_lem n first second p k h = go (is_odd p)
-  where
-    go : (t : Bool) → (if t then get_or second (p / 2) 0 else get_or first (p / 2) 0) < n
-    go true = k.second_node (p / 2) (omega arith)
-    go false = k.first_node (p / 2) (omega arith)
 
 -- ---- climbing
 
@@ -48,7 +37,8 @@ module _ (n : ℕ) (parents : List ℕ) (long : length parents ≡ 2 * n) where
     unfolding climb_ends
     climb_suc m e w = rw (parent_at at h, ne_eqb (get_or parents at 0) missing e) at w
 
-    pub climb_more : (k : ℕ) → k < n → (get_or parents at 0 ≡ missing → ⊥) → climb_ends parents (n - k) at ≡ whole → climb_ends parents (n - (k + 1)) (get_or parents at 0) ≡ whole
+    pub climb_more : (k : ℕ) → k < n → (get_or parents at 0 ≡ missing → ⊥) → climb_ends parents (n - k) at ≡ whole
+        → climb_ends parents (n - (k + 1)) (get_or parents at 0) ≡ whole
     climb_more k l e w =
         let q : n - k ≡ suc (n - (k + 1)) = omega arith in
         climb_suc (n - (k + 1)) e (rw q at w)
@@ -63,7 +53,8 @@ module _ (n : ℕ) (parents : List ℕ) (long : length parents ≡ 2 * n) where
   unfolding parent_test named_at parent_named
   parent_test_lem i h = rw (parent_at i h)
 
-  pub parents_all : all (parent_test (bare n) parents) (range 0 (2 * n)) ≡ (all (named_at n parents) (range 0 (2 * n)) && all (climb_ends parents n) (range 0 (2 * n)))
+  pub parents_all : all (parent_test (bare n) parents) (range 0 (2 * n))
+      ≡ (all (named_at n parents) (range 0 (2 * n)) && all (climb_ends parents n) (range 0 (2 * n)))
   parents_all = all_same (parent_test (bare n) parents) (λ i. named_at n parents i && climb_ends parents n i) 0 (2 * n) (λ i l m. one i m)
       ∙ all_both (named_at n parents) (climb_ends parents n) (range 0 (2 * n))
     where
@@ -87,22 +78,9 @@ module _ (n : ℕ) (parents : List ℕ) (long : length parents ≡ 2 * n) where
 
 module _ (n : ℕ) (first second : List ℕ) (weight : List ℤ) (k : Known n first second) (w : Weighed first weight) where
   pub slices : (e : ℕ) → (edge_count (lent n first second weight) ≡ length first)
-      × (first_of (lent n first second weight) e ≡ get_or first e 0) × (second_of (lent n first second weight) e ≡ get_or second e 0) × (weight_of (lent n first second weight) e ≡ get_or weight e (pos 0))
+      × (first_of (lent n first second weight) e ≡ get_or first e 0) × (second_of (lent n first second weight) e ≡ get_or second e 0) ×
+      (weight_of (lent n first second weight) e ≡ get_or weight e (pos 0))
   slices e = of_slices n first second weight e (sym k.seconds) (k.seconds ∙ sym w.weights)
-
-  pub node_at_lem : (p : ℕ) → node_at (lent n first second weight) p ≡ end_node first second p
-  unfolding node_at end_node
-  node_at_lem p = rw ((slices (p / 2)).1, (slices (p / 2)).2)
-
-  module _ (mates : List ℕ) (long : length mates ≡ n) where
-    pub mate_at : (v : ℕ) → v < n → mate_of mates v ≡ get_or mates v 0
-    unfolding mate_of
-    mate_at v h = get_d_any mates v missing 0 (omega arith)
-
-    pub matched_by_lem : (e : ℕ) → e < length first → matched (lent n first second weight) mates e ≡ matched_by first second mates e
-    unfolding matched matched_by
-    matched_by_lem e h =
-        rw ((slices e).1, (slices e).2, mate_at (get_or first e 0) (k.first_node e h), mate_at (get_or second e 0) (k.second_node e h))
 
 -- ---- DUAL and FREE at one number
 
@@ -111,6 +89,7 @@ unfolding dual_test dual_fits dual_of
 dual_test_lem n flag duals i = refl
 
 pub free_test_lem : (n : ℕ) (flag : Bool) (mates : List ℕ) (duals : List ℤ) (v : ℕ) → length mates ≡ n → v < n
-    → free_test (bare n) flag (certificate_of mates duals []) v ≡ (not (is_missing (get_or mates v 0)) || is_zero (get_or duals v (pos 0) +ℤ offset (bare n) flag duals))
+    → free_test (bare n) flag (certificate_of mates duals []) v
+    ≡ (not (is_missing (get_or mates v 0)) || is_zero (get_or duals v (pos 0) +ℤ offset (bare n) flag duals))
 unfolding free_test mate_of dual_of
 free_test_lem n flag mates duals v long h = rw (get_d_any mates v missing 0 (omega arith))

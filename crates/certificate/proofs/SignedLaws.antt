@@ -64,7 +64,8 @@ least_near k (a ∷ bs) e = least_from_near k a bs e.0 e.1
 -- the first n duals
 pub duals_near : (n : ℕ) (duals : List ℤ) → Near n duals → Each (λ z. nat_abs z ≤ 4503599627370496) (take n duals)
 duals_near n duals d = each_get_or (λ z. nat_abs z ≤ 4503599627370496) (take n duals) (pos 0)
-    (λ i h. subst (λ (z : ℤ). nat_abs z ≤ 4503599627370496) (sym (get_or-take n duals i (pos 0) (omega (arith, length-take n duals)))) (d.is_small i (omega (arith, length-take n duals))))
+    (λ i h. subst (λ (z : ℤ). nat_abs z ≤ 4503599627370496) (sym (get_or-take n duals i (pos 0) (omega (arith, length-take n duals))))
+    (d.is_small i (omega (arith, length-take n duals))))
 
 -- minus a number
 pub minus : (z : ℤ) → pos 0 -ℤ z ≡ neg_ℤ z
@@ -79,7 +80,8 @@ module _ (n : ℕ) (duals : List ℤ) (long : n ≤ length duals) where
   pub least_start : 0 < n → least_from (get_or duals 0 (pos 0)) (drop 1 (take n duals)) ≡ least (take n duals)
   least_start h = rw (get_or-take n duals 0 (pos 0) h) at (least_first (take n duals) (omega (arith, length-take n duals)))
 
-  pub least_turn : {whole : ℤ} (z : ℤ) (v : ℕ) → v < n → least_from z (drop v (take n duals)) ≡ whole → least_from (lesser z (get_or duals v (pos 0))) (drop (v + 1) (take n duals)) ≡ whole
+  pub least_turn : {whole : ℤ} (z : ℤ) (v : ℕ) → v < n → least_from z (drop v (take n duals)) ≡ whole
+      → least_from (lesser z (get_or duals v (pos 0))) (drop (v + 1) (take n duals)) ≡ whole
   least_turn z v h w = rw (get_or-take n duals v (pos 0) h) at (least_next (take n duals) z v (omega (arith, length-take n duals)) w)
 
   pub least_over : {whole : ℤ} (z : ℤ) (v : ℕ) → n ≤ v → least_from z (drop v (take n duals)) ≡ whole → z ≡ whole

@@ -1,37 +1,31 @@
--- EDGE and TIGHT: the sums of an edge's slack, none of which is too large, and the one pass over the edges.
+-- EDGE and TIGHT: the sum of an edge's slack, and the one pass over the edges.
 use Rattle.std.specs.Prelude.{if◌then◌else◌}
-use mathlib.Core.Path.{◌≡◌, refl, sym, ap, ◌∙◌}
-use mathlib.Core.Bool.{Bool, true, false, not, ◌&&◌, ◌||◌}
-use mathlib.Core.List.{List, []}
+use mathlib.Core.Path.{◌≡◌, refl, sym}
+use mathlib.Core.Bool.{Bool, true, false, ◌&&◌}
+use mathlib.Core.List.{List, [], ◌∷◌}
 use Prim.Native.Nat.{ℕ, ◌+◌, ◌*◌, ◌-◌, ◌<◌, ◌≤◌, zero-le}
 use native.Mathlib.Omega.{arith}
 use lib.IntN.{ℤ, pos, neg_ℤ, nat_abs, ◌+ℤ◌, ◌-ℤ◌, ◌*ℤ◌}
-use lib.ListN.{length, get_or}
-use lib.Signed.{le_z}
+use lib.ListN.{get_or}
 use mir.Syntax.{w64}
 use mir.Val.{SFits, to_z, of_z}
 use mir.ValLaws.{to_z-of_z}
-use Rattle.laws.specs.Integers.{is_zero}
 use Rattle.laws.specs.Lists.{all, range}
 use Rattle.laws.proofs.Integers.{abs_add, abs_neg, abs_double, fits_near}
 use Rattle.laws.proofs.Lists.{each_range, length_range, abs_total}
-use Rattle.matching.specs.Graph.{edges_of}
-use Rattle.matching.specs.Certificate.{contains, inside, slack, group_duals, full_slack, dual_of, meets}
-use Rattle.matching.specs.Tests.{edge_test, tight_test}
-use Rattle.certificate.specs.Chains.{common_duals}
-use Rattle.certificate.specs.Lists.{Known, Weighed, Near, lent, matched_by, certificate_of}
-use Rattle.certificate.specs.View.{slacks_of}
-use Rattle.certificate.specs.declared.slacks.Slacks.TheVariants as answers
+use Rattle.matching.specs.Graph.{Graph, edge_count, edges_of, first_of, second_of, weight_of}
+use Rattle.matching.specs.Certificate.{Certificate, EDGE, TIGHT, contains, inside, slack, group_duals, full_slack, dual_of, meets}
+use Rattle.matching.specs.Tests.{edge_test, tight_test, passes, YES, NO, verdict_of}
 use Rattle.laws.proofs.Loops.{all_next, all_stop, all_end, range_more, range_none}
-use Rattle.certificate.proofs.ListLaws.{slices, matched_by_lem}
-
--- ---- sums
+use Rattle.certificate.specs.Chains.{common_duals}
+use Rattle.certificate.specs.Lists.{Near}
 
 chosen : (t : Bool) (z : ℤ) (k : ℕ) → nat_abs z ≤ k → nat_abs (if t then z else pos 0) ≤ k
 chosen true z k h = h
 chosen false z k h = zero-le
 
-pub common_near : (n : ℕ) (duals : List ℤ) (parents : List ℕ) (a b : ℕ) → n ≤ 64 → Near n duals → nat_abs (common_duals n duals parents a b) ≤ 64 * 4503599627370496
+pub common_near : (n : ℕ) (duals : List ℤ) (parents : List ℕ) (a b : ℕ) → n ≤ 64 → Near n duals
+    → nat_abs (common_duals n duals parents a b) ≤ 64 * 4503599627370496
 unfolding common_duals dual_of
 common_near n duals parents a b h d = omega (
   arith,
@@ -40,7 +34,10 @@ common_near n duals parents a b h d = omega (
   length_range n n,
 )
 
-module _ (u x w g : ℤ) (hu : nat_abs u ≤ 4503599627370496) (hx : nat_abs x ≤ 4503599627370496) (hw : nat_abs w ≤ 1_000_000_000) (hg : nat_abs g ≤ 64 * 4503599627370496) where
+-- ---- none of the sums is too large, also of the bits that the code holds
+
+module _ (u x w g : ℤ) (hu : nat_abs u ≤ 4503599627370496) (hx : nat_abs x ≤ 4503599627370496) (hw : nat_abs w ≤ 1_000_000_000)
+    (hg : nat_abs g ≤ 64 * 4503599627370496) where
   fit_ends : SFits w64 (u +ℤ x)
   fit_ends = fits_near (u +ℤ x) (omega (arith, abs_add u x))
 
@@ -72,95 +69,82 @@ module _ (u x w g : ℤ) (hu : nat_abs u ≤ 4503599627370496) (hx : nat_abs x �
   eg : to_z w64 (of_z w64 g) ≡ g
   eg = to_z-of_z w64 g (fits_near g (omega arith))
 
-  pub bits_ends : SFits w64 (to_z w64 (of_z w64 u) +ℤ to_z w64 (of_z w64 x))
-  bits_ends = rw (eu, ex) fit_ends
+  pub bits_full : SFits w64
+      (to_z w64 (of_z w64 (to_z w64 (of_z w64 (to_z w64 (of_z w64 u) +ℤ to_z w64 (of_z w64 x))) -ℤ to_z w64 (of_z w64 (pos 2 *ℤ to_z w64 (of_z w64 w))))) +ℤ
+      to_z w64 (of_z w64 (pos 2 *ℤ to_z w64 (of_z w64 g))))
+  bits_full = rw (
+    eu,
+    ex,
+    ew,
+    eg,
+    to_z-of_z w64 (u +ℤ x) fit_ends,
+    to_z-of_z w64 (pos 2 *ℤ w) fit_weight,
+    to_z-of_z w64 (u +ℤ x -ℤ pos 2 *ℤ w) fit_slack,
+    to_z-of_z w64 (pos 2 *ℤ g) fit_common,
+  ) fit_full
 
-  pub bits_weight : SFits w64 (pos 2 *ℤ to_z w64 (of_z w64 w))
-  bits_weight = rw ew fit_weight
+  pub bits_result : to_z w64
+      (of_z w64 (to_z w64 (of_z w64 (to_z w64 (of_z w64 (to_z w64 (of_z w64 u) +ℤ to_z w64 (of_z w64 x))) -ℤ to_z w64
+      (of_z w64 (pos 2 *ℤ to_z w64 (of_z w64 w))))) +ℤ to_z w64 (of_z w64 (pos 2 *ℤ to_z w64 (of_z w64 g))))) ≡ u +ℤ x -ℤ pos 2 *ℤ w +ℤ pos 2 *ℤ g
+  bits_result = rw (
+    eu,
+    ex,
+    ew,
+    eg,
+    to_z-of_z w64 (u +ℤ x) fit_ends,
+    to_z-of_z w64 (pos 2 *ℤ w) fit_weight,
+    to_z-of_z w64 (u +ℤ x -ℤ pos 2 *ℤ w) fit_slack,
+    to_z-of_z w64 (pos 2 *ℤ g) fit_common,
+    to_z-of_z w64 (u +ℤ x -ℤ pos 2 *ℤ w +ℤ pos 2 *ℤ g) fit_full,
+  )
 
-  pub bits_slack : SFits w64 (to_z w64 (of_z w64 (to_z w64 (of_z w64 u) +ℤ to_z w64 (of_z w64 x))) -ℤ to_z w64 (of_z w64 (pos 2 *ℤ to_z w64 (of_z w64 w))))
-  bits_slack = rw (eu, ex, ew, to_z-of_z w64 (u +ℤ x) fit_ends, to_z-of_z w64 (pos 2 *ℤ w) fit_weight) fit_slack
+pub slack_sum : (G : Graph) (C : Certificate) (e : ℕ)
+    → full_slack G C e ≡ dual_of C.duals (first_of G e) +ℤ dual_of C.duals (second_of G e) -ℤ pos 2 *ℤ weight_of G e
+    +ℤ pos 2 *ℤ common_duals G.nodes C.duals C.parents (first_of G e) (second_of G e)
+unfolding full_slack slack group_duals inside contains common_duals
+slack_sum G C e = refl
 
-  pub bits_common : SFits w64 (pos 2 *ℤ to_z w64 (of_z w64 g))
-  bits_common = rw eg fit_common
+-- ---- the one pass
 
-  pub bits_full : SFits w64 (to_z w64 (of_z w64 (to_z w64 (of_z w64 (to_z w64 (of_z w64 u) +ℤ to_z w64 (of_z w64 x))) -ℤ to_z w64 (of_z w64 (pos 2 *ℤ to_z w64 (of_z w64 w))))) +ℤ to_z w64 (of_z w64 (pos 2 *ℤ to_z w64 (of_z w64 g))))
-  bits_full = rw (eu, ex, ew, eg, to_z-of_z w64 (u +ℤ x) fit_ends, to_z-of_z w64 (pos 2 *ℤ w) fit_weight, to_z-of_z w64 (u +ℤ x -ℤ pos 2 *ℤ w) fit_slack, to_z-of_z w64 (pos 2 *ℤ g) fit_common) fit_full
+-- what is left to test from edge e on, where the edges before it are tight or not
+pub record Passing (G : Graph) (C : Certificate) (e : ℕ) (tight : Bool) : Type 0 where
+  pub edges : all (edge_test G C) (range e (edge_count G - e)) ≡ all (edge_test G C) (edges_of G)
+  pub tights : (tight && all (tight_test G C) (range e (edge_count G - e))) ≡ all (tight_test G C) (edges_of G)
 
-  pub bits_result : to_z w64 (of_z w64 (to_z w64 (of_z w64 (to_z w64 (of_z w64 (to_z w64 (of_z w64 u) +ℤ to_z w64 (of_z w64 x))) -ℤ to_z w64 (of_z w64 (pos 2 *ℤ to_z w64 (of_z w64 w))))) +ℤ to_z w64 (of_z w64 (pos 2 *ℤ to_z w64 (of_z w64 g))))) ≡ u +ℤ x -ℤ pos 2 *ℤ w +ℤ pos 2 *ℤ g
-  bits_result = rw (eu, ex, ew, eg, to_z-of_z w64 (u +ℤ x) fit_ends, to_z-of_z w64 (pos 2 *ℤ w) fit_weight, to_z-of_z w64 (u +ℤ x -ℤ pos 2 *ℤ w) fit_slack, to_z-of_z w64 (pos 2 *ℤ g) fit_common, to_z-of_z w64 (u +ℤ x -ℤ pos 2 *ℤ w +ℤ pos 2 *ℤ g) fit_full)
+one_more : (tight t rest whole : Bool) → (tight && (t && rest)) ≡ whole → ((tight && t) && rest) ≡ whole
+one_more true t rest whole w = w
+one_more false t rest whole w = w
 
-module _ (n : ℕ) (first second : List ℕ) (weight : List ℤ) (k : Known n first second) (w : Weighed first weight) (duals : List ℤ) (parents : List ℕ) (e : ℕ) where
-  pub slack_is : get_or duals (get_or first e 0) (pos 0) +ℤ get_or duals (get_or second e 0) (pos 0) -ℤ pos 2 *ℤ get_or weight e (pos 0) +ℤ pos 2 *ℤ common_duals n duals parents (get_or first e 0) (get_or second e 0)
-      ≡ full_slack (lent n first second weight) (certificate_of [] duals parents) e
-  unfolding full_slack slack group_duals inside contains common_duals dual_of
-  slack_is = rw ((slices n first second weight k w e).1, (slices n first second weight k w e).2, (slices n first second weight k w e).3)
+module _ (G : Graph) (C : Certificate) where
+  pub passing_start : Passing G C 0 true
+  passing_start = let e : edge_count G - 0 ≡ edge_count G = omega arith in record { edges = rw e; tights = rw e }
 
--- the slack reads no mates
-pub same_slack : (n : ℕ) (first second : List ℕ) (weight : List ℤ) (mates : List ℕ) (duals : List ℤ) (parents : List ℕ) (e : ℕ)
-    → full_slack (lent n first second weight) (certificate_of [] duals parents) e ≡ full_slack (lent n first second weight) (certificate_of mates duals parents) e
-unfolding full_slack group_duals
-same_slack n first second weight mates duals parents e = refl
+  module _ (e : ℕ) (tight : Bool) (p : Passing G C e tight) where
+    pub passing_low : (flag : Bool) → e < edge_count G → edge_test G C e ≡ false → verdict_of G flag C (EDGE ∷ TIGHT ∷ []) ≡ NO EDGE
+    unfolding verdict_of passes
+    passing_low flag h l = rw (← all_stop (edge_test G C) e (edge_count G) h l p.edges)
 
--- ---- the pass
+    pub passing_next : (t : Bool) → e < edge_count G → edge_test G C e ≡ true → t ≡ tight_test G C e → Passing G C (e + 1) (tight && t)
+    unfolding all
+    passing_next t h l f = record {
+      edges = all_next (edge_test G C) e (edge_count G) h l p.edges;
+      tights = rw f (one_more tight (tight_test G C e) _ _ (rw (range_more e (edge_count G) h) at p.tights));
+    }
 
--- what is left to test from edge e on
-pub record Passing (n : ℕ) (first second : List ℕ) (weight : List ℤ) (mates : List ℕ) (duals : List ℤ) (parents : List ℕ) (e : ℕ) (loose : Bool) : Type 0 where
-  pub edges : all (edge_test (lent n first second weight) (certificate_of mates duals parents)) (range e (length first - e))
-      ≡ all (edge_test (lent n first second weight) (certificate_of mates duals parents)) (edges_of (lent n first second weight))
-  pub tights : (not loose && all (tight_test (lent n first second weight) (certificate_of mates duals parents)) (range e (length first - e)))
-      ≡ all (tight_test (lent n first second weight) (certificate_of mates duals parents)) (edges_of (lent n first second weight))
+    module _ (flag : Bool) (h : edge_count G ≤ e) where
+      edges_hold : all (edge_test G C) (edges_of G) ≡ true
+      edges_hold = sym (all_end (edge_test G C) e (edge_count G) h p.edges)
 
--- loose so far, or here
-one_more : (loose m z rest whole : Bool) → (not loose && ((not m || z) && rest)) ≡ whole → (not (loose || (m && not z)) && rest) ≡ whole
-one_more true m z rest whole w = w
-one_more false true true rest whole w = w
-one_more false true false rest whole w = w
-one_more false false z rest whole w = w
-
-module _ (n : ℕ) (first second : List ℕ) (weight : List ℤ) (k : Known n first second) (w : Weighed first weight) (mates : List ℕ) (long : length mates ≡ n) (duals : List ℤ) (parents : List ℕ) where
-  pub passing_start : Passing n first second weight mates duals parents 0 false
-  passing_start =
-      let e : length first - 0 ≡ length first = omega arith in
-      let m = (slices n first second weight k w 0).0 in
-      record { edges = rw (e, m); tights = rw (e, m) }
-
-  module _ (e : ℕ) (loose : Bool) (p : Passing n first second weight mates duals parents e loose) where
-    module _ (h : e < length first) (s : ℤ) (q : s ≡ full_slack (lent n first second weight) (certificate_of [] duals parents) e) where
-      same : full_slack (lent n first second weight) (certificate_of mates duals parents) e ≡ s
-      same = sym (q ∙ same_slack n first second weight mates duals parents e)
-
-      edge_is : edge_test (lent n first second weight) (certificate_of mates duals parents) e ≡ le_z (pos 0) s
-      unfolding edge_test
-      edge_is = ap (le_z (pos 0)) same
-
-      tight_is : tight_test (lent n first second weight) (certificate_of mates duals parents) e ≡ (not (matched_by first second mates e) || is_zero s)
-      unfolding tight_test
-      tight_is = rw (matched_by_lem n first second weight k w mates long e h, same)
-
-      pub passing_low : le_z (pos 0) s ≡ false → answers.Low ≡ slacks_of (lent n first second weight) (certificate_of mates duals parents)
-      unfolding slacks_of
-      passing_low l = rw (← all_stop (edge_test (lent n first second weight) (certificate_of mates duals parents)) e (length first) h (edge_is ∙ l) p.edges)
-
-      pub passing_next : le_z (pos 0) s ≡ true → (here : Bool) → here ≡ (matched_by first second mates e && not (is_zero s)) → Passing n first second weight mates duals parents (e + 1) (loose || here)
+      tights_are : (tight && true) ≡ all (tight_test G C) (edges_of G)
       unfolding all
-      passing_next l here f = record {
-        edges = all_next (edge_test (lent n first second weight) (certificate_of mates duals parents)) e (length first) h (edge_is ∙ l) p.edges;
-        tights = rw f (one_more loose (matched_by first second mates e) (is_zero s) _ _ (rw (range_more e (length first) h, tight_is) at p.tights));
-      }
+      tights_are = rw (range_none e (edge_count G) h) at p.tights
 
-    module _ (h : length first ≤ e) where
-      edges_hold : all (edge_test (lent n first second weight) (certificate_of mates duals parents)) (edges_of (lent n first second weight)) ≡ true
-      edges_hold = sym (all_end (edge_test (lent n first second weight) (certificate_of mates duals parents)) e (length first) h p.edges)
-
-      tights_are : (not loose && true) ≡ all (tight_test (lent n first second weight) (certificate_of mates duals parents)) (edges_of (lent n first second weight))
-      unfolding all
-      tights_are = rw (range_none e (length first) h) at p.tights
-
-      pub passing_loose : loose ≡ true → answers.Loose ≡ slacks_of (lent n first second weight) (certificate_of mates duals parents)
-      unfolding slacks_of
+      pub passing_loose : tight ≡ false → verdict_of G flag C (EDGE ∷ TIGHT ∷ []) ≡ NO TIGHT
+      unfolding verdict_of passes
       passing_loose l = rw (edges_hold, ← tights_are, l)
 
-      pub passing_fit : loose ≡ false → answers.Fit ≡ slacks_of (lent n first second weight) (certificate_of mates duals parents)
-      unfolding slacks_of
+      pub passing_fit : tight ≡ true → verdict_of G flag C (EDGE ∷ TIGHT ∷ []) ≡ YES
+      unfolding verdict_of passes
       passing_fit l = rw (edges_hold, ← tights_are, l)
+
+pub ruleset slack_pass = (passing_start, passing_low, passing_next, passing_loose, passing_fit)

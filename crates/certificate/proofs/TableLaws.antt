@@ -2,7 +2,7 @@
 use Rattle.std.specs.Prelude.{if◌then◌else◌}
 use mathlib.Core.Path.{◌≡◌, refl, sym, ap, subst, ◌∙◌}
 use mathlib.Core.Bool.{Bool, ◌||◌}
-use mathlib.Core.Logic.{◌≢◌, ◌⊎◌, inl, inr, ⊎_elim}
+use mathlib.Core.Logic.{⊎_elim}
 use mathlib.Core.List.{List, [], ◌∷◌}
 use Prim.Native.Nat.{ℕ, zero, suc, ◌+◌, ◌*◌, ◌-◌, ◌<◌, ◌≤◌, zero-le}
 use native.Mathlib.Nat.{mul-le-mul_right, eq-or-lt_of_le}
@@ -10,26 +10,16 @@ use native.Mathlib.Numerals.{add-one, sub-one}
 use native.Mathlib.Omega.{arith}
 use borrow.Author.Tests.{eq-eqb, ne_eqb}
 use lib.Dec.{T}
-use lib.IntN.{ℤ, pos, nat_abs, ◌+ℤ◌, +ℤ_comm}
-use lib.ListN.{length, get_or, set, take, drop, length-take, length-drop, length-set, drop_of_length-le}
+use lib.ListN.{length, get_or, set, take, drop, length-take, length-drop, length-set}
 use lib.Seq.{ext_get_or, get_or-take, get_or-drop, get_or-set_same, get_or-set_other, drop-cons}
-use mir.Syntax.{w64}
-use mir.Val.{SFits}
-use Rattle.laws.specs.Lists.{Each, member, total}
-use Rattle.laws.proofs.Integers.{abs_add, fits_near}
-use Rattle.laws.proofs.Lists.{abs_total, each_map}
 use Rattle.matching.specs.Graph.{missing, is_missing}
-use Rattle.matching.specs.Certificate.{parent_of, dual_of, meets}
+use Rattle.matching.specs.Certificate.{parent_of}
 use Rattle.matching.specs.Tests.{climb_ends}
-use Rattle.certificate.specs.Chains.{chain, Named, Climbing, Climbed, Row, Table, common_duals}
+use Rattle.certificate.specs.Chains.{chain, Named, Climbing, Climbed, Row, Table}
 use Rattle.numbers.proofs.PoolLaws.{place_row}
-use Rattle.certificate.specs.Lists.{Near}
 use Rattle.laws.proofs.Loops.{is_true}
 use Rattle.certificate.proofs.ListLaws.{parent_at}
-use Rattle.certificate.proofs.ChainLaws.{Parted, chain_length, chain_groups, each_drop, chain_entry, common_total, meets_member}
-
-pub row_small : (n v : ℕ) → n ≤ 64 → v < n → v * n + n ≤ 4096
-row_small n v h l = omega (arith, mul-le-mul_right n l, mul-le-mul_right n h)
+use Rattle.certificate.proofs.ChainLaws.{chain_length}
 
 -- ---- climbing
 
@@ -105,7 +95,8 @@ pub record Rising (n : ℕ) (parents before : List ℕ) (row p₀ : ℕ) (after 
   pub room : row + n ≤ length before
   pub known : (p ≡ missing → ⊥) → p < 2 * n
 
-module _ (n : ℕ) (parents before : List ℕ) (row p₀ : ℕ) (after : List ℕ) (p k : ℕ) (named : Named n parents) (r : Rising n parents before row p₀ after p k) (q : p ≡ missing → ⊥) where
+module _ (n : ℕ) (parents before : List ℕ) (row p₀ : ℕ) (after : List ℕ) (p k : ℕ) (named : Named n parents) (r : Rising n parents before row p₀ after p k)
+    (q : p ≡ missing → ⊥) where
   here : drop k (from parents (n - 1) p₀) ≡ p ∷ from parents (n - 1 - k - 1) (parent_of parents p)
   here = r.rest ∙ from_more parents (n - 1 - k) p q r.ends
 
@@ -138,7 +129,8 @@ module _ (n : ℕ) (parents before : List ℕ) (row p₀ : ℕ) (after : List �
         short = r.short;
         rest = ap (λ (x : ℕ). drop x (from parents (n - 1) p₀)) (add-one k) ∙ tail_is ∙ ap₂' same_step e;
         counted = omega (arith, rising_in);
-        ends = subst (λ (x : ℕ). Ends parents (n - 1 - (k + 1)) x) e (subst (λ (m : ℕ). Ends parents m (parent_of parents p)) same_step (from_ends parents (n - 1 - k) p q r.ends));
+        ends = subst (λ (x : ℕ). Ends parents (n - 1 - (k + 1)) x) e (subst (λ (m : ℕ). Ends parents m (parent_of parents p)) same_step
+            (from_ends parents (n - 1 - k) p q r.ends));
         written = λ j h. ⊎_elim (λ (z : suc j ≡ suc k). last j (omega arith)) (λ (z : suc j < suc k). earlier j (omega arith)) (eq-or-lt_of_le (up_to j h));
         ahead = λ i h. get_or-set_other after (row + k) i p 0 (λ z. omega arith) ∙ r.ahead i h;
         as_long = length-set after (row + k) p ∙ r.as_long;
@@ -182,10 +174,12 @@ module _ (n : ℕ) (parents before : List ℕ) (v : ℕ) (climbing : Climbing n 
         known = λ q. (climbing.named.is_group v (omega arith) q).1;
       }
 
-  pub rising_end : (after : List ℕ) (p k : ℕ) → Rising n parents before (v * n) (get_or parents v 0) after p k → p ≡ missing → Climbed n parents v before after k
+  pub rising_end : (after : List ℕ) (p k : ℕ) → Rising n parents before (v * n) (get_or parents v 0) after p k → p ≡ missing
+      → Climbed n parents v before after k
   rising_end after p k r e =
       let none : drop k (from parents (n - 1) (get_or parents v 0)) ≡ [] = r.rest ∙ from_none parents (n - 1 - k) p e in
-      let over : length (from parents (n - 1) (get_or parents v 0)) - k ≡ 0 = sym (length-drop k (from parents (n - 1) (get_or parents v 0))) ∙ ap length none in
+      let over : length (from parents (n - 1) (get_or parents v 0)) - k ≡ 0 = sym (length-drop k (from parents (n - 1) (get_or parents v 0)))
+      ∙ ap length none in
       let count : k ≡ length (from parents (n - 1) (get_or parents v 0)) = omega (arith, r.counted) in
       record {
         count = count ∙ sym (ap length chain_is);
@@ -227,132 +221,18 @@ filled_next n parents counts pool pool' v k h f c = record {
 
 -- ---- reading a row
 
-abbrev pub row_of : (n : ℕ) → (counts pool : List ℕ) → ℕ → List ℕ
-row_of n counts pool v = take (get_or counts v 0) (drop (v * n) pool)
-
 module _ (n : ℕ) (counts pool parents : List ℕ) (t : Table n counts pool parents) (v : ℕ) (h : v < n) where
   count_fits : get_or counts v 0 ≤ n
   count_fits = omega (arith, (t.row v h).count, chain_length parents n v)
 
-  pub row_length : length (row_of n counts pool v) ≡ get_or counts v 0
+  pub row_fits : v * n + get_or counts v 0 ≤ length pool
+  row_fits = omega (arith, count_fits, place_row n v h, t.pool_fits)
+
+  row_length : length (take (get_or counts v 0) (drop (v * n) pool)) ≡ get_or counts v 0
   row_length = simp (length-take, length-drop) (omega (arith, count_fits, place_row n v h, t.pool_fits))
 
-  pub row_is : row_of n counts pool v ≡ chain parents n v
-  row_is = ext_get_or 0 (row_of n counts pool v) (chain parents n v) (row_length ∙ (t.row v h).count)
+  pub row_is : take (get_or counts v 0) (drop (v * n) pool) ≡ chain parents n v
+  row_is = ext_get_or 0 (take (get_or counts v 0) (drop (v * n) pool)) (chain parents n v) (row_length ∙ (t.row v h).count)
       (λ k l. get_or-take (get_or counts v 0) (drop (v * n) pool) k 0 (omega (arith, row_length))
       ∙ get_or-drop (v * n) pool k 0
       ∙ (t.row v h).entry k (omega (arith, row_length, (t.row v h).count)))
-
-  pub row_place : (k : ℕ) → k < get_or counts v 0 → v * n + k < length pool
-  row_place k l = omega (arith, count_fits, place_row n v h, t.pool_fits)
-
-  pub row_count : get_or counts v 0 ≤ n
-  row_count = count_fits
-
-  pub row_entry : (k : ℕ) → k < get_or counts v 0 → get_or (row_of n counts pool v) k 0 ≡ get_or pool (v * n + k) 0
-  row_entry k l = get_or-take (get_or counts v 0) (drop (v * n) pool) k 0 l ∙ get_or-drop (v * n) pool k 0
-
-  pub row_group : (k : ℕ) → k < get_or counts v 0 → get_or pool (v * n + k) 0 < 2 * n
-  row_group k l = subst (λ (x : ℕ). x < 2 * n) (sym ((t.row v h).entry k m)) (chain_entry n parents v k t.climbing (omega arith) m).1
-    where
-      m : k < length (chain parents n v)
-      m = omega (arith, (t.row v h).count)
-
-  -- a group stands in the row exactly if it contains v
-  pub row_meets : (B : ℕ) → member B (row_of n counts pool v) ≡ meets parents n v B
-  row_meets B = ap (member B) row_is ∙ sym (meets_member parents n v B)
-
--- ---- two rows, from the top
-
-pub record Shared (n : ℕ) (counts pool : List ℕ) (duals : List ℤ) (a b i j : ℕ) (s : ℤ) : Type 0 where
-  pub first_in : i ≤ get_or counts a 0
-  pub second_in : j ≤ get_or counts b 0
-  pub same : drop i (row_of n counts pool a) ≡ drop j (row_of n counts pool b)
-  pub is_sum : s ≡ total (drop i (row_of n counts pool a)) (dual_of duals)
-
-module _ (n : ℕ) (counts pool parents : List ℕ) (duals : List ℤ) (a b : ℕ) (t : Table n counts pool parents) (near : Near n duals) (ha : a < n) (hb : b < n) where
-  pub shared_start : Shared n counts pool duals a b (get_or counts a 0) (get_or counts b 0) (pos 0)
-  unfolding total
-  shared_start =
-      let ea : drop (get_or counts a 0) (row_of n counts pool a) ≡ [] = drop_of_length-le (row_of n counts pool a) {i = get_or counts a 0} (omega (arith, row_length n counts pool parents t a ha)) in
-      let eb : drop (get_or counts b 0) (row_of n counts pool b) ≡ [] = drop_of_length-le (row_of n counts pool b) {i = get_or counts b 0} (omega (arith, row_length n counts pool parents t b hb)) in
-      record { first_in = le_self (get_or counts a 0); second_in = le_self (get_or counts b 0); same = ea ∙ sym eb; is_sum = rw ea }
-    where
-      le_self : (k : ℕ) → k ≤ k
-      le_self k = omega arith
-
-  module _ (i j : ℕ) (s : ℤ) (w : Shared n counts pool duals a b i j s) where
-    parted : (i ≡ 0) ⊎ ((j ≡ 0) ⊎ (get_or (row_of n counts pool a) (i - 1) 0 ≢ get_or (row_of n counts pool b) (j - 1) 0)) → s ≡ common_duals n duals parents a b
-    parted q =
-        let ra = row_is n counts pool parents t a ha in
-        let rb = row_is n counts pool parents t b hb in
-        w.is_sum ∙ ap (λ (l : List ℕ). total (drop i l) (dual_of duals)) ra
-        ∙ common_total n parents duals a b i j t.climbing (omega arith) (omega arith)
-        (subst (λ (l : List ℕ). Parted (chain parents n a) l i j) rb (subst (λ (l : List ℕ). Parted l (row_of n counts pool b) i j) ra
-        (record { first_in = omega (arith, w.first_in, row_length n counts pool parents t a ha); second_in = omega (arith, w.second_in, row_length n counts pool parents t b hb); same = w.same; apart = q })))
-
-    dual_near : (x : ℕ) → x < 2 * n → nat_abs (dual_of duals x) ≤ 4503599627370496
-    unfolding dual_of
-    dual_near x h = near.is_small x h
-
-    pub sum_near : nat_abs s ≤ 64 * 4503599627370496
-    sum_near = omega (
-      arith,
-      ap nat_abs (w.is_sum ∙ ap (λ (l : List ℕ). total (drop i l) (dual_of duals)) (row_is n counts pool parents t a ha)),
-      abs_total (dual_of duals) 4503599627370496 (drop i (chain parents n a)) (near_drop i),
-      length-drop i (chain parents n a),
-      chain_length parents n a,
-      t.few_nodes,
-    )
-      where
-        near_drop : (k : ℕ) → Each (λ x. nat_abs (dual_of duals x) ≤ 4503599627370496) (drop k (chain parents n a))
-        near_drop k = each_drop (λ x. nat_abs (dual_of duals x) ≤ 4503599627370496) k (chain parents n a)
-            (each_map (λ x g. dual_near x (omega (arith, g.1))) (chain parents n a) (chain_groups n parents t.climbing.named n a (omega arith)))
-
-    pub stop_first : i ≡ 0 → s ≡ common_duals n duals parents a b
-    stop_first e = parted (inl e)
-
-    pub stop_second : j ≡ 0 → s ≡ common_duals n duals parents a b
-    stop_second e = parted (inr (inl e))
-
-    module _ (hi : i ≡ 0 → ⊥) (hj : j ≡ 0 → ⊥) where
-      first_at : get_or (row_of n counts pool a) (i - 1) 0 ≡ get_or pool (a * n + (i - 1)) 0
-      first_at = row_entry n counts pool parents t a ha (i - 1) (omega (arith, w.first_in))
-
-      second_at : get_or (row_of n counts pool b) (j - 1) 0 ≡ get_or pool (b * n + (j - 1)) 0
-      second_at = row_entry n counts pool parents t b hb (j - 1) (omega (arith, w.second_in))
-
-      pub stop_apart : (get_or pool (a * n + (i - 1)) 0 ≡ get_or pool (b * n + (j - 1)) 0 → ⊥) → s ≡ common_duals n duals parents a b
-      stop_apart d = parted (inr (inr (λ e. d (sym first_at ∙ e ∙ second_at))))
-
-      pub shared_group : get_or pool (a * n + (i - 1)) 0 < 2 * n
-      shared_group = row_group n counts pool parents t a ha (i - 1) (omega (arith, w.first_in))
-
-      first_more : drop (i - 1) (row_of n counts pool a) ≡ get_or pool (a * n + (i - 1)) 0 ∷ drop i (row_of n counts pool a)
-      first_more =
-          let e : suc (i - 1) ≡ i = omega arith in
-          drop-cons (row_of n counts pool a) (i - 1) 0 (omega (arith, w.first_in, row_length n counts pool parents t a ha)) ∙ rw (e, first_at)
-
-      second_more : drop (j - 1) (row_of n counts pool b) ≡ get_or pool (b * n + (j - 1)) 0 ∷ drop j (row_of n counts pool b)
-      second_more =
-          let e : suc (j - 1) ≡ j = omega arith in
-          drop-cons (row_of n counts pool b) (j - 1) 0 (omega (arith, w.second_in, row_length n counts pool parents t b hb)) ∙ rw (e, second_at)
-
-      pub shared_next : get_or pool (a * n + (i - 1)) 0 ≡ get_or pool (b * n + (j - 1)) 0 → Shared n counts pool duals a b (i - 1) (j - 1) (s +ℤ dual_of duals (get_or pool (a * n + (i - 1)) 0))
-      unfolding total
-      shared_next e = record {
-        first_in = omega (arith, w.first_in);
-        second_in = omega (arith, w.second_in);
-        same = first_more ∙ ap {B = List ℕ} (λ (x : ℕ). x ∷ drop i (row_of n counts pool a)) e ∙ ap {B = List ℕ} (λ (l : List ℕ). get_or pool (b * n + (j - 1)) 0 ∷ l) w.same ∙ sym second_more;
-        is_sum = rw (first_more) (+ℤ_comm s (dual_of duals (get_or pool (a * n + (i - 1)) 0)) ∙ ap (λ (z : ℤ). dual_of duals (get_or pool (a * n + (i - 1)) 0) +ℤ z) w.is_sum);
-      }
-
-      -- no sum on the way is too large
-      pub shared_fits : SFits w64 (s +ℤ dual_of duals (get_or pool (a * n + (i - 1)) 0))
-      shared_fits = fits_near (s +ℤ dual_of duals (get_or pool (a * n + (i - 1)) 0)) (omega (
-        arith,
-        abs_add s (dual_of duals (get_or pool (a * n + (i - 1)) 0)),
-        dual_near (get_or pool (a * n + (i - 1)) 0) shared_group,
-        sum_near,
-        t.few_nodes,
-      ))

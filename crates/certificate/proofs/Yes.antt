@@ -27,7 +27,8 @@ module _ (n : ℕ) (first second : List ℕ) (weight : List ℤ) (flag : Bool) (
       → check_after (lent n first second weight) flag (certificate_of mates duals parents) i ≡ JUDGED YES
       → Optimal (lent n first second weight) flag (pairs (lent n first second weight) (take n mates))
   unfolding check_after read_of
-  after fine e h = yes_optimal (lent n first second weight) (accepted_well_formed n (edges_from first second weight) (accepted n (edges_from first second weight) (room_of (certificate_of mates duals parents)) e).each_edge) flag
+  after fine e h = yes_optimal (lent n first second weight) (accepted_well_formed n (edges_from first second weight)
+      (accepted n (edges_from first second weight) (room_of (certificate_of mates duals parents)) e).each_edge) flag
       (read_of n (certificate_of mates duals parents)) (cc)
   after (refused r) e h = let z : ◌≡◌ {A = ℕ} 0 1 = cc in absurd (nought z)
     where
@@ -42,11 +43,13 @@ module _ (n : ℕ) (first second : List ℕ) (weight : List ℤ) (flag : Bool) (
       nought : ◌≡◌ {A = ℕ} 0 1 → ⊥
       nought z = omega arith
 
-      go : (t : Bool) → (if t then check_after (lent n first second weight) flag (certificate_of mates duals parents) (intake n (edges_from first second weight) (room_of (certificate_of mates duals parents))) else DECLINED (unequal n (length first))) ≡ JUDGED YES
+      go : (t : Bool) → (if t then check_after (lent n first second weight) flag (certificate_of mates duals parents)
+          (intake n (edges_from first second weight) (room_of (certificate_of mates duals parents))) else DECLINED (unequal n (length first))) ≡ JUDGED YES
           → Optimal (lent n first second weight) flag (pairs (lent n first second weight) (take n mates))
       go true h = after (intake n (edges_from first second weight) (room_of (certificate_of mates duals parents))) refl h
       go false h = let z : ◌≡◌ {A = ℕ} 0 1 = cc in absurd (nought z)
 
-  pub check_yes_optimal : (answer : Answer) → judgement_of answer ≡ check_lists n first second weight flag (certificate_of mates duals parents) → answer ≡ answers.Yes
+  pub check_yes_optimal : (answer : Answer) → judgement_of answer ≡ check_lists n first second weight flag (certificate_of mates duals parents) → answer
+      ≡ answers.Yes
       → Optimal (lent n first second weight) flag (pairs (lent n first second weight) (take n mates))
   check_yes_optimal answer e y = judged_optimal (sym e ∙ ap judgement_of y)

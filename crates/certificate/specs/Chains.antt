@@ -40,11 +40,6 @@ pub record Table (n : ℕ) (counts pool parents : List ℕ) : Type 0 where
   pub pool_fits : n * n ≤ length pool
   pub row : (v : ℕ) → v < n → Row n parents counts pool v
 
--- the table is that of some parents
-pub record Made (n : ℕ) (counts pool : List ℕ) : Type 0 where
-  pub parents : List ℕ
-  pub table : Table n counts pool parents
-
 -- the duals of the groups that contain both a and b
 unfoldable pub common_duals : (n : ℕ) → (duals : List ℤ) → (parents : List ℕ) → ℕ → ℕ → ℤ
 common_duals n duals parents a b = total (range n n) (λ B. if meets parents n a B && meets parents n b B then dual_of duals B else pos 0)

@@ -3,3 +3,4 @@ pub mod Lists
 pub mod Chains
 pub mod Groups
 pub mod View
+pub mod Trial

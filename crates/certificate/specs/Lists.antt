@@ -1,9 +1,9 @@
 -- The check call on three parallel lists of edges: first nodes, second nodes, weights. Lists of one length are the edge list whose entry e
 -- is made of the three entries e, and then all is as in `steps`. Lists of unequal length are no edge list: BUFFER, at its place in the
 -- order, after NODES and EDGES, where the first nodes are counted. The plan call refuses by the same `intake_lists`. Definitions only.
-use Rattle.std.specs.Prelude.{if◌then◌else◌, ◌≡◌, Bool, not, ◌&&◌, ◌||◌, List, [], ℕ, ◌+◌, ◌*◌, ◌/◌, ◌<◌, ◌≤◌, eqb, leb, ltb, ℤ, pos, nat_abs, length, get_or}
+use Rattle.std.specs.Prelude.{if◌then◌else◌, ◌≡◌, Bool, not, ◌&&◌, ◌||◌, List, [], ℕ, ◌*◌, ◌/◌, ◌<◌, ◌≤◌, eqb, leb, ltb, ℤ, pos, nat_abs, length, get_or}
 use Rattle.std.specs.Int.Signed.{le_z}
-use Rattle.matching.specs.Graph.{Graph, graph_of, edges_from, is_missing, is_odd, beside}
+use Rattle.matching.specs.Graph.{Graph, graph_of, edges_from, is_missing, is_odd}
 use Rattle.matching.specs.Certificate.{Certificate, max_dual}
 use Rattle.steps.specs.Refusals.{max_nodes, max_edges, Refusal, NODES, EDGES, BUFFER, Intake, refused, Room, intake}
 use Rattle.steps.specs.Check.{Judgement, DECLINED, check}
@@ -42,13 +42,6 @@ bare n = graph_of n []
 unfoldable pub end_node : (first second : List ℕ) → ℕ → ℕ
 end_node first second p = if is_odd p then get_or second (p / 2) 0 else get_or first (p / 2) 0
 
-unfoldable pub mate_fits : (first second mates : List ℕ) → ℕ → Bool
-mate_fits first second mates v =
-    is_missing (get_or mates v 0)
-    || (ltb (get_or mates v 0) (2 * length first)
-    && (eqb (end_node first second (beside (get_or mates v 0))) v
-    && eqb (get_or mates (end_node first second (get_or mates v 0)) 0) (beside (get_or mates v 0))))
-
 unfoldable pub parent_named : (n p : ℕ) → Bool
 parent_named n p = is_missing p || (leb n p && ltb p (2 * n))
 
@@ -58,10 +51,6 @@ named_at n parents i = parent_named n (get_or parents i 0)
 unfoldable pub dual_fits : (n : ℕ) → (flag : Bool) → (i : ℕ) → ℤ → Bool
 dual_fits n flag i d =
     leb (nat_abs d) max_dual && ((not (leb n i) || le_z (pos 0) d) && (not (not flag) || le_z (pos 0) d))
-
-unfoldable pub matched_by : (first second mates : List ℕ) → ℕ → Bool
-matched_by first second mates e =
-    eqb (get_or mates (get_or first e 0) 0) (2 * e + 1) && eqb (get_or mates (get_or second e 0) 0) (2 * e)
 
 -- ---- what the functions below the call may ask for, since the refusals or the conditions before have shown it
 

@@ -1,20 +1,14 @@
 -- What the code's answers stand for. Document 01's number and place of a verdict are `judgement_number` and `judgement_place` of it.
-use Rattle.std.specs.Prelude.{Bool, true, false, ℕ}
-use Rattle.laws.specs.Lists.{all}
-use Rattle.matching.specs.Graph.{Graph, edges_of}
-use Rattle.matching.specs.Certificate.{Certificate, Condition, MATE, PARENT, DUAL, EDGE, TIGHT, FREE, FULL}
-use Rattle.matching.specs.Tests.{YES, NO, edge_test, tight_test}
+use Rattle.std.specs.Prelude.{◌≡◌, Bool, true, false, ℕ, Result, Ok, Err}
+use Rattle.matching.specs.Certificate.{Condition, MATE, PARENT, DUAL, EDGE, TIGHT, FREE, FULL}
+use Rattle.matching.specs.Tests.{Verdict, YES, NO}
 use Rattle.steps.specs.Refusals.{Refusal, NODES, EDGES, BUFFER, END, LOOP, WEIGHT, Intake, fine, refused}
 use Rattle.steps.specs.Check.{Judgement, JUDGED, DECLINED, judgement_number, judgement_place}
 use Rattle.certificate.specs.declared.answers.Cause as cause
 use Rattle.certificate.specs.declared.answers.Cause.TheVariants as causes
 use Rattle.certificate.specs.declared.answers.Condition as condition
 use Rattle.certificate.specs.declared.answers.Condition.TheVariants as conditions
-use Rattle.certificate.specs.declared.answers.Intake as intake
-use Rattle.certificate.specs.declared.answers.Intake.TheVariants as intakes
 use Rattle.certificate.specs.declared.answers.Verdict as verdict
-use Rattle.certificate.specs.declared.slacks.Slacks as slack
-use Rattle.certificate.specs.declared.slacks.Slacks.TheVariants as slacks
 use Rattle.certificate.specs.declared.answers.Verdict.TheVariants as verdicts
 
 abbrev pub cause_of : cause.Cause → Refusal
@@ -25,9 +19,9 @@ cause_of (causes.End e) = END e.0
 cause_of (causes.Loop e) = LOOP e.0
 cause_of (causes.Weight e) = WEIGHT e.0
 
-abbrev pub intake_of : intake.Intake → Intake
-intake_of intakes.Fine = fine
-intake_of (intakes.Refused c) = refused (cause_of c)
+abbrev pub intake_of : {A : Type 0} → Result A cause.Cause → Intake
+intake_of (Ok a) = fine
+intake_of (Err c) = refused (cause_of c)
 
 abbrev pub condition_of : condition.Condition → Condition
 condition_of conditions.Mate = MATE
@@ -37,6 +31,11 @@ condition_of conditions.Edge = EDGE
 condition_of conditions.Tight = TIGHT
 condition_of conditions.Free = FREE
 condition_of conditions.Full = FULL
+
+-- what was tested holds, or else a condition fails
+abbrev pub answer_of : {A : Type 0} → Result A condition.Condition → Verdict
+answer_of (Ok a) = YES
+answer_of (Err c) = NO (condition_of c)
 
 abbrev pub judgement_of : verdict.Verdict → Judgement
 judgement_of verdicts.Yes = JUDGED YES
@@ -49,11 +48,7 @@ number_of v = judgement_number (judgement_of v)
 abbrev pub place_of : verdict.Verdict → ℕ
 place_of v = judgement_place (judgement_of v)
 
--- EDGE and TIGHT together: Low where EDGE fails, else Loose where TIGHT does
-abbrev pub slack_answer : (edge tight : Bool) → slack.Slacks
-slack_answer false t = slacks.Low
-slack_answer true false = slacks.Loose
-slack_answer true true = slacks.Fit
-
-unfoldable pub slacks_of : Graph → Certificate → slack.Slacks
-slacks_of G C = slack_answer (all (edge_test G C) (edges_of G)) (all (tight_test G C) (edges_of G))
+-- what a test that must hold answers
+abbrev pub Required : {A E : Type 0} → Bool → E → Result A E → Type 0
+Required test error (Ok a) = test ≡ true
+Required test error (Err e) = (test ≡ false) × (e ≡ error)

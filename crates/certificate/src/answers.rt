@@ -2,12 +2,12 @@
 ghost use Rattle.std.specs.Prelude.{◌≡◌};
 ghost use Rattle.matching.specs.Certificate.{condition_number};
 ghost use Rattle.steps.specs.Refusals.{refusal_number, refusal_place};
-ghost use Rattle.certificate.specs.View.{cause_of, condition_of, number_of, place_of};
+ghost use Rattle.certificate.specs.View.{cause_of, condition_of, number_of, place_of, Required};
 
 use numbers::Edge;
 
 // Answers 1 to 6: End, Loop and Weight carry the edge.
-#[derive(Clone, Copy)]
+#[derive(Clone, Copy, Debug, PartialEq, Eq)]
 pub enum Cause {
     Nodes,
     Edges,
@@ -17,14 +17,8 @@ pub enum Cause {
     Weight(Edge),
 }
 
-#[derive(Clone, Copy)]
-pub enum Intake {
-    Fine,
-    Refused(Cause),
-}
-
 // Conditions 11 to 17.
-#[derive(Clone, Copy)]
+#[derive(Clone, Copy, Debug, PartialEq, Eq)]
 pub enum Condition {
     Mate,
     Parent,
@@ -35,74 +29,83 @@ pub enum Condition {
     Full,
 }
 
-#[derive(Clone, Copy)]
+#[derive(Clone, Copy, Debug, PartialEq, Eq)]
 pub enum Verdict {
     Yes,
     No(Condition),
     Refused(Cause),
 }
 
-// Document 01's number of a refusal.
-pub fn cause_number(x: Cause) -> u16
-    ensures { result ≡ refusal_number (cause_of x) }
-{
-    match x {
-        Cause::Nodes => 1,
-        Cause::Edges => 2,
-        Cause::End(_) => 3,
-        Cause::Loop(_) => 4,
-        Cause::Weight(_) => 5,
-        Cause::Buffer => 6,
+// Numbers and places by a match: the cases hold values, so no cast gives them.
+impl Cause {
+    // Document 01's number of a refusal.
+    pub fn number(self) -> u16
+        ensures { result ≡ refusal_number (cause_of self) }
+    {
+        match self {
+            Cause::Nodes => 1,
+            Cause::Edges => 2,
+            Cause::End(_) => 3,
+            Cause::Loop(_) => 4,
+            Cause::Weight(_) => 5,
+            Cause::Buffer => 6,
+        }
+    }
+
+    // Its place: the edge, or 0.
+    pub fn place(self) -> u16
+        ensures { result ≡ refusal_place (cause_of self) }
+    {
+        match self {
+            Cause::End(e) | Cause::Loop(e) | Cause::Weight(e) => e.number(),
+            Cause::Nodes | Cause::Edges | Cause::Buffer => 0,
+        }
     }
 }
 
-// Its place: the edge, or 0.
-pub fn cause_place(x: Cause) -> u16
-    ensures { result ≡ refusal_place (cause_of x) }
-{
-    match x {
-        Cause::Nodes => 0,
-        Cause::Edges => 0,
-        Cause::End(e) => e.number(),
-        Cause::Loop(e) => e.number(),
-        Cause::Weight(e) => e.number(),
-        Cause::Buffer => 0,
+impl Condition {
+    // Document 01's number of a condition.
+    pub fn number(self) -> u16
+        ensures { result ≡ condition_number (condition_of self) }
+    {
+        match self {
+            Condition::Mate => 11,
+            Condition::Parent => 12,
+            Condition::Dual => 13,
+            Condition::Edge => 14,
+            Condition::Tight => 15,
+            Condition::Free => 16,
+            Condition::Full => 17,
+        }
     }
 }
 
-// Document 01's number of a condition.
-fn condition_number(x: Condition) -> u16
-    ensures { result ≡ condition_number (condition_of x) }
-{
-    match x {
-        Condition::Mate => 11,
-        Condition::Parent => 12,
-        Condition::Dual => 13,
-        Condition::Edge => 14,
-        Condition::Tight => 15,
-        Condition::Free => 16,
-        Condition::Full => 17,
+impl Verdict {
+    // Document 01's number of a verdict: 0 for YES.
+    pub fn number(self) -> u16
+        ensures { result ≡ number_of self }
+    {
+        match self {
+            Verdict::Yes => 0,
+            Verdict::No(c) => c.number(),
+            Verdict::Refused(c) => c.number(),
+        }
+    }
+
+    // And its place.
+    pub fn place(self) -> u16
+        ensures { result ≡ place_of self }
+    {
+        match self {
+            Verdict::Yes | Verdict::No(_) => 0,
+            Verdict::Refused(c) => c.place(),
+        }
     }
 }
 
-// Document 01's number of a verdict: 0 for YES.
-pub fn verdict_number(x: Verdict) -> u16
-    ensures { result ≡ number_of x }
+// Ok where a test holds, and else the error that says which.
+pub(crate) fn must<E: Copy>(test: bool, error: E) -> Result<(), E>
+    ensures { Required test error result }
 {
-    match x {
-        Verdict::Yes => 0,
-        Verdict::No(c) => condition_number(c),
-        Verdict::Refused(c) => cause_number(c),
-    }
-}
-
-// And its place.
-pub fn verdict_place(x: Verdict) -> u16
-    ensures { result ≡ place_of x }
-{
-    match x {
-        Verdict::Yes => 0,
-        Verdict::No(_) => 0,
-        Verdict::Refused(c) => cause_place(c),
-    }
+    if test { Ok(()) } else { Err(error) }
 }

@@ -1,30 +1,47 @@
 // The chain of each node: the groups that contain it, from the innermost to the outermost. Each chain is climbed once and kept as a row of
 // a table: row v has n places, of which counts[v] are in use.
-ghost use Rattle.std.specs.Prelude.{◌≡◌, List, ℕ, ◌+◌, ◌*◌, ◌<◌, ◌≤◌, length, get_or};
-ghost use Rattle.matching.specs.Certificate.{meets};
-ghost use Rattle.certificate.specs.Chains.{Climbing, Climbed, Table, Made, common_duals};
-ghost use Rattle.certificate.specs.Lists.{Near};
+ghost use Rattle.std.specs.Prelude.{◌≡◌, ◌+◌, ◌*◌, ◌<◌, ◌≤◌, nat_abs, length, take, drop};
+ghost use Rattle.laws.specs.Lists.{member, sum};
+ghost use Rattle.matching.specs.Certificate.{meets, size as size_of};
+ghost use Rattle.certificate.specs.Chains.{Climbing, Climbed, Table, chain, common_duals};
+ghost use Rattle.certificate.specs.Lists.{Near, bare};
 
 use numbers::{Group, MISSING, Node};
 
+#[derive(Clone, Copy)]
+pub(crate) struct Chains<'a> {
+    pub(crate) nodes: u16,
+    pub(crate) parents: &'a [u16],
+    counts: &'a [u16],
+    pool: &'a [u16],
+    ghost table: { Table nodes counts.now pool.now parents.now },
+}
+
 // Climbs from v, writes the groups met to row v, and answers how many there are.
 fn climb(n: u16, parents: &[u16], v: Node, pool: &mut [u16]) -> u16
-    requires { (n ≤ 64) × Climbing n parents.now × (v.0 < n) × (n * n ≤ length pool.old) }
+    requires few { n ≤ 64 }
+    requires climbing { Climbing n parents.now }
+    requires node { v.0 < n }
+    requires room { n * n ≤ length pool.old }
     ensures { Climbed n parents.now v.0 pool.old pool.new result }
 {
     let row = v.number() as usize * n as usize;
+    // Where the next parent is is what the last one says.
     let mut p = parents[v.number() as usize];
     let mut k: u16 = 0;
     while p != MISSING {
         pool[row + k as usize] = p;
         p = parents[p as usize];
-        k = k + 1;
+        k += 1;
     }
     k
 }
 
-pub(crate) fn fill_chains(n: u16, parents: &[u16], counts: &mut [u16], pool: &mut [u16])
-    requires { (n ≤ 64) × Climbing n parents.now × (n ≤ length counts.old) × (n * n ≤ length pool.old) }
+fn fill(n: u16, parents: &[u16], counts: &mut [u16], pool: &mut [u16])
+    requires few { n ≤ 64 }
+    requires climbing { Climbing n parents.now }
+    requires counts { n ≤ length counts.old }
+    requires room { n * n ≤ length pool.old }
     ensures { Table n counts.new pool.new parents.now }
 {
     for v in 0..n {
@@ -33,54 +50,101 @@ pub(crate) fn fill_chains(n: u16, parents: &[u16], counts: &mut [u16], pool: &mu
     }
 }
 
-// Entry k of row v.
-fn chain_at(n: u16, pool: &[u16], v: Node, k: u16) -> Group
-    requires { (n ≤ 64) × (v.0 < n) × (v.0 * n + k < length pool.now) }
-    ensures { result.0 ≡ get_or pool.now (v.0 * n + k) 0 }
+fn is_in(list: &[u16], x: u16) -> bool
+    ensures { result ≡ member x list.now }
 {
-    Group(pool[v.number() as usize * n as usize + k as usize])
+    list.contains(&x)
 }
 
-// Group b contains node v.
-pub(crate) fn contains(n: u16, counts: &[u16], pool: &[u16], b: Group, v: Node) -> bool
-    requires { Made n counts.now pool.now × (v.0 < n) }
-    ensures { (parents : List ℕ) → Table n counts.now pool.now parents → result ≡ meets parents n v.0 b.0 }
+fn part(list: &[u16], from: usize, count: usize) -> &[u16]
+    requires { from + count ≤ length list.now }
+    ensures { result.now ≡ take count (drop from list.now) }
 {
-    for k in 0..counts[v.number() as usize] {
-        if chain_at(n, pool, v, k).number() == b.number() {
-            return true;
-        }
-    }
-    false
+    &list[from..from + count]
 }
 
-// The duals of all groups that contain both a and b: the two chains are compared from the top, and what they share ends where they part.
-pub(crate) fn common_duals(
-    n: u16,
-    counts: &[u16],
-    pool: &[u16],
-    duals: &[i64],
-    a: Node,
-    b: Node,
-) -> i64
-    requires { Made n counts.now pool.now × Near n duals.now × (a.0 < n) × (b.0 < n) }
-    ensures { (parents : List ℕ) → Table n counts.now pool.now parents → result ≡ common_duals n duals.now parents a.0 b.0 }
-{
-    let mut i = counts[a.number() as usize];
-    let mut j = counts[b.number() as usize];
-    let mut sum: i64 = 0;
-    while i != 0 {
-        if j == 0 {
-            return sum;
+impl<'a> Chains<'a> {
+    // The table is made in the two lists, whatever they held.
+    pub(crate) fn of(
+        n: u16,
+        parents: &'a [u16],
+        counts: &'a mut [u16],
+        pool: &'a mut [u16],
+    ) -> Chains<'a>
+        requires few { n ≤ 64 }
+        requires climbing { Climbing n parents.now }
+        requires counts { n ≤ length counts.old }
+        requires room { n * n ≤ length pool.old }
+        ensures nodes { result.nodes ≡ n }
+        ensures parents { result.parents.now ≡ parents.now }
+    {
+        fill(n, parents, counts, pool);
+        Chains {
+            nodes: n,
+            parents,
+            counts,
+            pool,
         }
-        let x = chain_at(n, pool, a, i - 1).number();
-        let y = chain_at(n, pool, b, j - 1).number();
-        if x != y {
-            return sum;
-        }
-        sum = sum + duals[x as usize];
-        i = i - 1;
-        j = j - 1;
     }
-    sum
+
+    #[tactic(auto, using(crate::proofs::RowLaws::rows))]
+    fn row(&self, v: Node) -> &[u16]
+        requires node { v.0 < self.now.nodes }
+        ensures { result.now ≡ chain self.now.parents.now self.now.nodes v.0 }
+    {
+        let from = v.number() as usize * self.nodes as usize;
+        let count = self.counts[v.number() as usize] as usize;
+        part(self.pool, from, count)
+    }
+
+    // Group b contains node v.
+    #[tactic(auto, using(crate::proofs::ChainLaws::meets_member))]
+    pub(crate) fn contains(&self, b: Group, v: Node) -> bool
+        requires node { v.0 < self.now.nodes }
+        ensures { result ≡ meets self.now.parents.now self.now.nodes v.0 b.0 }
+    {
+        is_in(self.row(v), b.number())
+    }
+
+    // How many nodes group b contains.
+    #[tactic(auto, using(crate::proofs::Passes::sums), unfolding(matching::specs::Certificate::size, matching::specs::Certificate::contains))]
+    pub(crate) fn size_of(&self, b: Group) -> u16
+        ensures { result ≡ size_of (bare self.now.nodes) self.now.parents.now b.0 }
+    {
+        let mut size: u16 = 0;
+        for v in 0..self.nodes {
+            size += u16::from(self.contains(b, Node(v)));
+        }
+        size
+    }
+
+    // The duals of all groups that contain both a and b: the two chains are compared from the top, and what they share ends where they part.
+    #[tactic(auto, using(crate::proofs::SharedLaws::shared))]
+    pub(crate) fn common_duals(&self, duals: &[i64], a: Node, b: Node) -> i64
+        requires near { Near self.now.nodes duals.now }
+        requires first { a.0 < self.now.nodes }
+        requires second { b.0 < self.now.nodes }
+        ensures sum { result ≡ common_duals self.now.nodes duals.now self.now.parents.now a.0 b.0 }
+        ensures near { nat_abs result ≤ 64 * 4503599627370496 }
+    {
+        let x = self.row(a);
+        let y = self.row(b);
+        // Two places from the top, no longer than two iterators turned round.
+        let mut i = x.len();
+        let mut j = y.len();
+        let mut sum: i64 = 0;
+        while i != 0 {
+            if j == 0 {
+                return sum;
+            }
+            let g = x[i - 1];
+            if g != y[j - 1] {
+                return sum;
+            }
+            sum += duals[g as usize];
+            i -= 1;
+            j -= 1;
+        }
+        sum
+    }
 }

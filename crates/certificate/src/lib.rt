@@ -4,57 +4,57 @@
 ghost use Rattle.std.specs.Prelude.{◌≡◌, [], ◌∷◌, ◌*◌, length};
 ghost use Rattle.matching.specs.Certificate.{EDGE, TIGHT, FREE, FULL};
 ghost use Rattle.matching.specs.Tests.{verdict, verdict_of};
-ghost use Rattle.steps.specs.Check.{JUDGED};
 ghost use Rattle.certificate.specs.Chains.{Climbing};
 ghost use Rattle.certificate.specs.Lists.{Known, Weighed, Near, lent, certificate_of, check_lists};
-ghost use Rattle.certificate.specs.View.{judgement_of};
+ghost use Rattle.certificate.specs.Trial.{graph};
+ghost use Rattle.certificate.specs.View.{answer_of, judgement_of};
 
 pub mod answers;
 mod chains;
+mod edges;
 mod groups;
 pub mod intake;
 pub mod nodes;
 mod slacks;
+mod trial;
 
-use crate::answers::{Condition, Intake, Verdict};
-use crate::chains::fill_chains;
-use crate::groups::full_pass;
+use crate::answers::{Condition, Verdict, must};
+use crate::chains::Chains;
+use crate::edges::Edges;
 use crate::intake::refusal;
-use crate::nodes::{duals_pass, free_pass, mates_pass, parents_pass};
-use crate::slacks::{Slacks, judge_slacks};
+use crate::nodes::{duals_pass, free_pass, parents_pass};
+use crate::trial::Trial;
 
 // EDGE to FULL, where MATE, PARENT and DUAL hold.
+#[tactic(auto, using(crate::proofs::JudgeLaws::sums))]
 fn judge_sums(
-    n: u16,
-    first: &[u16],
-    second: &[u16],
-    weight: &[i64],
+    edges: Edges,
     flag: bool,
     mates: &[u16],
     duals: &[i64],
     parents: &[u16],
-) -> Verdict
-    requires { Known n first.now second.now × Weighed first.now weight.now × (length mates.now ≡ n) × Near n duals.now × Climbing n parents.now }
-    ensures { judgement_of result ≡ JUDGED (verdict_of (lent n first.now second.now weight.now) flag (certificate_of mates.now duals.now parents.now) (EDGE ∷ TIGHT ∷ FREE ∷ FULL ∷ [])) }
+) -> Result<(), Condition>
+    requires mates { length mates.now ≡ edges.nodes }
+    requires near { Near edges.nodes duals.now }
+    requires climbing { Climbing edges.nodes parents.now }
+    ensures { answer_of result ≡ verdict_of (graph edges.entry) flag (certificate_of mates.now duals.now parents.now) (EDGE ∷ TIGHT ∷ FREE ∷ FULL ∷ []) }
 {
     let mut counts = [0u16; 64];
     let mut pool = [0u16; 4096];
-    fill_chains(n, parents, &mut counts, &mut pool);
-    match judge_slacks(n, first, second, weight, mates, duals, &counts, &pool) {
-        Slacks::Low => return Verdict::No(Condition::Edge),
-        Slacks::Loose => return Verdict::No(Condition::Tight),
-        Slacks::Fit => {}
-    }
-    if !free_pass(n, flag, mates, duals) {
-        return Verdict::No(Condition::Free);
-    }
-    if !full_pass(n, first, second, mates, duals, &counts, &pool) {
-        return Verdict::No(Condition::Full);
-    }
-    Verdict::Yes
+    let chains = Chains::of(edges.nodes, parents, &mut counts, &mut pool);
+    let trial = Trial {
+        edges,
+        chains,
+        mates,
+        duals,
+    };
+    trial.slacks_pass(flag)?;
+    must(free_pass(edges.nodes, flag, mates, duals), Condition::Free)?;
+    must(trial.full_pass(), Condition::Full)
 }
 
 // The verdict on n mates, 2n duals and 2n parents, for edges that are not refused.
+#[tactic(auto, using(crate::proofs::JudgeLaws::judging))]
 pub fn judge(
     n: u16,
     first: &[u16],
@@ -64,20 +64,24 @@ pub fn judge(
     mates: &[u16],
     duals: &[i64],
     parents: &[u16],
-) -> Verdict
-    requires { Known n first.now second.now × Weighed first.now weight.now × (length mates.now ≡ n) × (length duals.now ≡ 2 * n) × (length parents.now ≡ 2 * n) }
-    ensures { judgement_of result ≡ JUDGED (verdict (lent n first.now second.now weight.now) flag (certificate_of mates.now duals.now parents.now)) }
+) -> Result<(), Condition>
+    requires known { Known n first.now second.now }
+    requires weighed { Weighed first.now weight.now }
+    requires mates { length mates.now ≡ n }
+    requires duals { length duals.now ≡ 2 * n }
+    requires parents { length parents.now ≡ 2 * n }
+    ensures { answer_of result ≡ verdict (lent n first.now second.now weight.now) flag (certificate_of mates.now duals.now parents.now) }
 {
-    if !mates_pass(n, first, second, mates) {
-        return Verdict::No(Condition::Mate);
-    }
-    if !parents_pass(n, parents) {
-        return Verdict::No(Condition::Parent);
-    }
-    if !duals_pass(n, flag, duals) {
-        return Verdict::No(Condition::Dual);
-    }
-    judge_sums(n, first, second, weight, flag, mates, duals, parents)
+    let edges = Edges {
+        nodes: n,
+        first,
+        second,
+        weight,
+    };
+    must(edges.mates_pass(mates), Condition::Mate)?;
+    must(parents_pass(n, parents), Condition::Parent)?;
+    must(duals_pass(n, flag, duals), Condition::Dual)?;
+    judge_sums(edges, flag, mates, duals, parents)
 }
 
 // The check call. It reads its lists only.
@@ -93,7 +97,7 @@ pub fn check(
 ) -> Verdict
     ensures { judgement_of result ≡ check_lists n first.now second.now weight.now max_cardinality (certificate_of mates.now duals.now parents.now) }
 {
-    let found = refusal(
+    if let Err(cause) = refusal(
         n,
         first,
         second,
@@ -101,15 +105,15 @@ pub fn check(
         mates.len(),
         duals.len(),
         parents.len(),
-    );
-    match found {
-        Intake::Refused(cause) => Verdict::Refused(cause),
-        Intake::Fine => {
-            let k = 2 * n;
-            let m = &mates[..n];
-            let d = &duals[..k];
-            let p = &parents[..k];
-            judge(n as u16, first, second, weight, max_cardinality, m, d, p)
-        }
+    ) {
+        return Verdict::Refused(cause);
+    }
+    let k = 2 * n;
+    let m = &mates[..n];
+    let d = &duals[..k];
+    let p = &parents[..k];
+    match judge(n as u16, first, second, weight, max_cardinality, m, d, p) {
+        Ok(()) => Verdict::Yes,
+        Err(condition) => Verdict::No(condition),
     }
 }

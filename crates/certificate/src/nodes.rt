@@ -1,17 +1,18 @@
 // The conditions on mates, parents and duals alone: MATE, PARENT, DUAL, FREE.
-ghost use Rattle.std.specs.Prelude.{◌≡◌, not, ◌&&◌, ◌||◌, [], ℕ, ◌+◌, ◌*◌, ◌<◌, ◌≤◌, eqb, nat_abs, ◌+ℤ◌, length, get_or, take};
-ghost use Rattle.laws.specs.Integers.{is_zero, least as least_of};
+ghost use Rattle.std.specs.Prelude.{◌≡◌, not, ◌||◌, [], ◌+◌, ◌*◌, ◌<◌, ◌≤◌, nat_abs, ◌+ℤ◌, length, take};
+ghost use Rattle.laws.specs.Integers.{is_zero, lesser, least as least_of};
 ghost use Rattle.laws.specs.Lists.{all, range};
-ghost use Rattle.matching.specs.Graph.{beside as beside_of, is_missing};
+ghost use Rattle.matching.specs.Graph.{is_missing};
 ghost use Rattle.matching.specs.Certificate.{offset as offset_of};
 ghost use Rattle.matching.specs.Tests.{climb_ends, parent_test, dual_test, free_test};
 ghost use Rattle.certificate.specs.Chains.{Named};
-ghost use Rattle.certificate.specs.Lists.{Known, Near, end_node, mate_fits, parent_named, named_at, dual_fits, bare, certificate_of};
+ghost use Rattle.certificate.specs.Lists.{Near, end_node, parent_named, named_at, dual_fits, bare, certificate_of};
 
-use numbers::amounts::lesser;
 use numbers::{End, MISSING, Node};
 
 const MAX_DUAL: i64 = 4503599627370496;
+
+// Functions of n and of one list or two: a struct would hold more than any of them reads.
 
 // ---- 11 MATE
 
@@ -26,45 +27,6 @@ pub fn node_at(first: &[u16], second: &[u16], p: End) -> Node
     } else {
         Node(first[e])
     }
-}
-
-// End p, the mate of node v, is one whose other end is v and whose node has that other end as mate.
-fn names_back(first: &[u16], second: &[u16], mates: &[u16], v: Node, p: End) -> bool
-    requires { ((n : ℕ) × Known n first.now second.now × (n ≤ length mates.now)) × (p.0 < 2 * length first.now) }
-    ensures { result ≡ (eqb (end_node first.now second.now (beside_of p.0)) v.0 && eqb (get_or mates.now (end_node first.now second.now p.0) 0) (beside_of p.0)) }
-{
-    let q = p.beside();
-    if node_at(first, second, q).number() != v.number() {
-        return false;
-    }
-    let b = node_at(first, second, p).number() as usize;
-    mates[b] == q.number()
-}
-
-fn mate_fits(first: &[u16], second: &[u16], mates: &[u16], v: Node) -> bool
-    requires { ((n : ℕ) × Known n first.now second.now × (n ≤ length mates.now)) × (v.0 < length mates.now) }
-    ensures { result ≡ mate_fits first.now second.now mates.now v.0 }
-{
-    let p = mates[v.number() as usize];
-    if p == MISSING {
-        return true;
-    }
-    if 2 * first.len() <= p as usize {
-        return false;
-    }
-    names_back(first, second, mates, v, End(p))
-}
-
-pub(crate) fn mates_pass(n: u16, first: &[u16], second: &[u16], mates: &[u16]) -> bool
-    requires { Known n first.now second.now × (length mates.now ≡ n) }
-    ensures { result ≡ all (mate_fits first.now second.now mates.now) (range 0 n) }
-{
-    for v in 0..n {
-        if !mate_fits(first, second, mates, Node(v)) {
-            return false;
-        }
-    }
-    true
 }
 
 // ---- 12 PARENT
@@ -168,7 +130,14 @@ pub(crate) fn duals_pass(n: u16, flag: bool, duals: &[i64]) -> bool
 
 // ---- 16 FREE
 
-// The least of the first n duals; 0 if n is 0.
+#[tactic(auto, unfolding(laws::specs::Integers::lesser))]
+fn lesser(a: i64, b: i64) -> i64
+    ensures { result ≡ lesser a b }
+{
+    a.min(b)
+}
+
+// The least of the first n duals; 0 if n is 0. The search's least is of a list that is not empty, and else a fault.
 fn least(n: u16, duals: &[i64]) -> i64
     requires { (n ≤ 64) × Near n duals.now }
     ensures { result ≡ least_of (take n duals.now) }

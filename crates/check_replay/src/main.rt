@@ -2,62 +2,44 @@
 // come out are made by compare/certificates/make, which knows document 01 and nothing of this code.
 #![tactic(auto)]
 
-use certificate::answers::{verdict_number, verdict_place};
-use replays::{amounts, length, number, numbers, pair, read_full, say};
+use certificate::answers::Verdict;
+use replays::{ENTRIES, amount, length, number, read_full};
 use std::io;
 use std::io::{Read, Write};
 
-// Reads one certificate of n nodes and judges it.
-fn judge<R: Read, W: Write>(from: &mut R, out: &mut W, n: usize) {
+// The node count that the next certificate begins with; none where the input has ended.
+fn node_count<R: Read>(from: &mut R) -> Option<u16> {
+    let mut head = [0; 2];
+    (read_full(from, &mut head) == 2).then(|| u16::from_le_bytes(head))
+}
+
+// Reads one certificate of n nodes and judges it. Fixed lists, cut to their length: with a heap the program could fail.
+fn judge<R: Read>(from: &mut R, n: usize) -> Verdict {
     let flag = number(from) == 1;
-    let k1 = length(from);
-    let k2 = length(from);
-    let k3 = length(from);
-    let k4 = length(from);
-    let k5 = length(from);
-    let k6 = length(from);
-    let mut first = [0u16; 2112];
-    let mut second = [0u16; 2112];
-    let mut weight = [0i64; 2112];
-    let mut mates = [0u16; 2112];
-    let mut duals = [0i64; 2112];
-    let mut parents = [0u16; 2112];
-    numbers(from, &mut first, k1);
-    numbers(from, &mut second, k2);
-    amounts(from, &mut weight, k3);
-    numbers(from, &mut mates, k4);
-    amounts(from, &mut duals, k5);
-    numbers(from, &mut parents, k6);
-    let v = certificate::check(
-        n,
-        &first[..k1],
-        &second[..k2],
-        &weight[..k3],
-        flag,
-        &mates[..k4],
-        &duals[..k5],
-        &parents[..k6],
-    );
-    say(out, verdict_number(v) as u64, b' ');
-    say(out, verdict_place(v) as u64, b'\n');
+    let first = &mut [0; ENTRIES][..length(from)];
+    let second = &mut [0; ENTRIES][..length(from)];
+    let weight = &mut [0; ENTRIES][..length(from)];
+    let mates = &mut [0; ENTRIES][..length(from)];
+    let duals = &mut [0; ENTRIES][..length(from)];
+    let parents = &mut [0; ENTRIES][..length(from)];
+    first.fill_with(|| number(from));
+    second.fill_with(|| number(from));
+    weight.fill_with(|| amount(from));
+    mates.fill_with(|| number(from));
+    duals.fill_with(|| amount(from));
+    parents.fill_with(|| number(from));
+    certificate::check(n, first, second, weight, flag, mates, duals, parents)
 }
 
-// One certificate, which begins with its node count; false where the input has ended.
-fn one<R: Read, W: Write>(from: &mut R, out: &mut W) -> bool {
-    let mut head = [0u8; 2];
-    if read_full(from, &mut head) < 2 {
-        return false;
-    }
-    judge(from, out, pair(head[0], head[1]) as usize);
-    true
-}
-
-// The loop counts its turns down, since nothing says that the input ends.
+// The loop counts its turns, since nothing says that the input ends. A write that fails is passed over.
 fn main(rt: HostRuntime) {
     let mut from = rt.reader();
     let mut out = io::writer(&rt);
-    let mut turns: u32 = 100000;
-    while turns > 0 && one(&mut from, &mut out) {
-        turns = turns - 1;
+    for _ in 0..100000 {
+        let Some(n) = node_count(&mut from) else {
+            return;
+        };
+        let v = judge(&mut from, usize::from(n));
+        let _ = writeln!(out, "{} {}", v.number(), v.place());
     }
 }

@@ -68,6 +68,10 @@ times_drop v zero l = omega arith
 times_drop v (suc k) [] = zero-le
 times_drop v (suc k) (x ∷ xs) = omega (arith, times_drop v k xs)
 
+-- the ends before entry i are counted
+pub record Counting (n i : ℕ) (ends counts : List ℕ) : Type 0 where
+  pub counting : (v : ℕ) → v < n → get_or counts v 0 + times v (drop i ends) ≡ times v ends
+
 -- one entry further back
 module _ (ends : List ℕ) (p q : ℕ) (e : suc q ≡ p) (h : q < length ends) where
   pub back : drop q ends ≡ get_or ends q 0 ∷ drop p ends
@@ -79,21 +83,22 @@ module _ (ends : List ℕ) (p q : ℕ) (e : suc q ≡ p) (h : q < length ends) w
   pub back_other : (v : ℕ) → get_or ends q 0 ≢ v → times v (drop q ends) ≡ times v (drop p ends)
   back_other v d = rw back (times_later v (get_or ends q 0) (drop p ends) d)
 
-  -- the count of the entry is one more
-  pub count_back : (n : ℕ) (counts : List ℕ) → n < length counts → get_or ends q 0 < n → Counted n (drop p ends) counts
-      → Counted n (drop q ends) (set counts (get_or ends q 0) (get_or counts (get_or ends q 0) 0 + 1))
-  count_back n counts l i c = record { counted = each }
+  -- the entry is counted
+  pub count_more : (n : ℕ) (counts : List ℕ) → n < length counts → get_or ends q 0 < n → Counting n q ends counts
+      → Counting n p ends (set counts (get_or ends q 0) (get_or counts (get_or ends q 0) 0 + 1))
+  count_more n counts l i c = record { counting = each }
     where
-      each : (v : ℕ) → v < n → get_or (set counts (get_or ends q 0) (get_or counts (get_or ends q 0) 0 + 1)) v 0 ≡ times v (drop q ends)
-      each v k =
-          let x = get_or ends q 0 in
-          ⊎_elim
-          (λ same. rw (← same) (get_or-set_same counts x (get_or counts x 0 + 1) 0 (omega arith) ∙ omega (arith, back_here, c.counted x i)))
-          (λ d. get_or-set_other counts x v (get_or counts x 0 + 1) 0 (λ r. d (sym r)) ∙ c.counted v k ∙ sym (back_other v d))
+      x : ℕ
+      x = get_or ends q 0
+
+      each : (v : ℕ) → v < n → get_or (set counts x (get_or counts x 0 + 1)) v 0 + times v (drop p ends) ≡ times v ends
+      each v k = ⊎_elim
+          (λ same. rw (← same, get_or-set_same counts x (get_or counts x 0 + 1) 0 (omega arith)) (omega (arith, back_here, c.counting x i)))
+          (λ d. rw (get_or-set_other counts x v (get_or counts x 0 + 1) 0 (λ r. d (sym r))) (omega (arith, back_other v d, c.counting v k)))
           (same_or_not x v)
 
-  pub count_skip : (n : ℕ) (counts : List ℕ) → n ≤ get_or ends q 0 → Counted n (drop p ends) counts → Counted n (drop q ends) counts
-  count_skip n counts i c = record { counted = λ v k. c.counted v k ∙ sym (back_other v (λ r. omega arith)) }
+  pub count_skip : (n : ℕ) (counts : List ℕ) → n ≤ get_or ends q 0 → Counting n q ends counts → Counting n p ends counts
+  count_skip n counts i c = record { counting = λ v k. omega (arith, back_other v (λ r. omega arith), c.counting v k) }
 
 -- ---- sums
 
@@ -142,10 +147,12 @@ module _ (counts l : List ℕ) (v t : ℕ) (s : Summing counts v l) (e : t ≡ s
   }
 
 -- no end is counted yet
-pub counted_none : (n k : ℕ) (ends : List ℕ) → n < k → Counted n (drop (length ends) ends) (replicate k 0)
-counted_none n k ends h = record {
-  counted = λ v l. get_or-replicate k v 0 0 (omega arith) ∙ rw (drop_of_length-le ends {i = length ends} (omega arith)) (sym (times_nil v));
-}
+pub count_none : (n k : ℕ) (ends : List ℕ) → n < k → Counting n 0 ends (replicate k 0)
+count_none n k ends h = record { counting = λ v l. rw (get_or-replicate {A = ℕ} k v 0 0 (omega arith)) (omega arith) }
+
+-- all are
+pub count_end : (n i : ℕ) (ends counts : List ℕ) → length ends ≤ i → Counting n i ends counts → Counted n ends counts
+count_end n i ends counts h c = record { counted = λ v l. omega (arith, ap (times v) (drop_of_length-le ends h), times_nil v, c.counting v l) }
 
 -- no more than there are ends
 pub sum_le : (n : ℕ) (ends counts : List ℕ) → Counted n ends counts → sum_to counts n ≤ length ends

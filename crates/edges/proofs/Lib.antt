@@ -1,4 +1,5 @@
--- The laws of lent edges and of the neighbours' table.
+-- The laws of lent edges, their largest weight, and the table of neighbours.
 pub mod Lent
+pub mod Top
 pub mod Counts
 pub mod Placing

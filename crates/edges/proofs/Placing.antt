@@ -92,12 +92,15 @@ placed_none n ends counts offsets far c s = record {
     more : (v : ℕ) → v < n → sum_to counts (v + 1) ≡ below (suc v) ends
     more v h = rw (add-one v) (sum_below n ends counts c (suc v) h)
 
-module _ (n : ℕ) (ends offsets far : List ℕ) (p q : ℕ) (e : suc q ≡ p) (h : q < length ends) (s : Placed n p ends offsets far) where
+module _ {n p : ℕ} {ends offsets far : List ℕ} (s : Placed n p ends offsets far) (q : ℕ) (e : suc q ≡ p) (h : q < length ends) where
   pub placed_skip : n ≤ get_or ends q 0 → Placed n q ends offsets far
   placed_skip l = record {
     reach = λ v k. rw (back_other ends p q e h v (λ r. omega arith)) (s.reach v k);
     last = s.last;
-    row = λ v k. ap (λ (t : ℕ). take t (drop (get_or offsets v 0) far)) (back_other ends p q e h v (λ r. omega arith)) ∙ s.row v k ∙ sym (later v (λ r. omega arith));
+    row = λ v k.
+        ap (λ (t : ℕ). take t (drop (get_or offsets v 0) far)) (back_other ends p q e h v (λ r. omega arith))
+        ∙ s.row v k
+        ∙ sym (later v (λ r. omega arith));
   }
     where
       later : (v : ℕ) → get_or ends q 0 ≢ v → far_from v q (drop q ends) ≡ far_from v p (drop p ends)
@@ -149,7 +152,7 @@ module _ (n : ℕ) (ends offsets far : List ℕ) (p q : ℕ) (e : suc q ≡ p) (
         over : (v : ℕ) → x ≢ v → x ≤ v → suc x ≤ v
         over v d g = omega (arith, d)
 
-    pub placed_more : Placed n q ends (set offsets (get_or ends q 0) (get_or offsets (get_or ends q 0) 0 - 1)) (set far (get_or offsets (get_or ends q 0) 0 - 1) (beside q))
+    pub placed_more : Placed n q ends offsets' far'
     placed_more = record {
       reach = λ v i. ⊎_elim
           (λ g. rw (← g, same) (omega (arith, placed_room, s.reach x l, back_here ends p q e h)))
@@ -160,7 +163,7 @@ module _ (n : ℕ) (ends offsets far : List ℕ) (p q : ℕ) (e : suc q ≡ p) (
     }
 
 -- all ends are placed
-module _ (n : ℕ) (ends offsets far : List ℕ) (lf : length far ≡ length ends) (s : Placed n 0 ends offsets far) where
+module _ {n : ℕ} {ends offsets far : List ℕ} (s : Placed n 0 ends offsets far) (lf : length far ≡ length ends) where
   start : (v : ℕ) → v < n → get_or offsets v 0 ≡ below v ends
   start v h = omega (arith, s.reach v h, below_next v ends)
 

@@ -1,3 +1,3 @@
 -- What slacks and tests stand for, and the table of neighbours.
-pub mod View
 pub mod Neighbours
+pub mod Views

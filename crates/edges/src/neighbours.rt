@@ -3,32 +3,31 @@
 ghost use Rattle.std.specs.Prelude.{List, ◌≡◌, ℕ, ◌+◌, ◌<◌, ◌≤◌, length};
 ghost use Rattle.edges.specs.Neighbours.{Neighbours, Counted, Summed, sum_to};
 
-use numbers::{End, fill};
+use numbers::End;
 
 // How many ends are at each node.
 fn count_ends(ends: &[u16], n: u16, counts: &mut [u16])
-    requires { (length counts.old ≡ n + 1) × (length ends.now ≤ 32768) }
+    requires starts { length counts.old ≡ n + 1 }
+    requires few { length ends.now ≤ 32768 }
     ensures { Counted n ends.now counts.new }
 {
-    fill(counts, 0);
-    let mut p = ends.len();
-    while p > 0 {
-        p -= 1;
-        let v = ends[p];
+    counts.fill(0);
+    for &v in ends {
         if v < n {
-            let k = v as usize;
-            counts[k] = counts[k] + 1;
+            counts[v as usize] += 1;
         }
     }
 }
 
 // Where each node's places end.
 fn sum_up(offsets: &mut [u16], n: u16)
-    requires { (length offsets.old ≡ n + 1) × (sum_to offsets.old n ≤ 32768) }
+    requires starts { length offsets.old ≡ n + 1 }
+    requires few { sum_to offsets.old n ≤ 32768 }
     ensures { Summed n offsets.old offsets.new }
 {
     let end = n as usize;
     let mut total: u16 = 0;
+    // By place: writing through an iterator would tell nothing of the entries.
     for v in 0..end {
         total += offsets[v];
         offsets[v] = total;
@@ -38,12 +37,13 @@ fn sum_up(offsets: &mut [u16], n: u16)
 
 // Each end's far end goes before those that its node has so far.
 fn place_ends(ends: &[u16], n: u16, offsets: &mut [u16], far: &mut [u16])
-    requires { (length offsets.old ≡ n + 1) × (length ends.now ≤ 32768) × (length far.old ≡ length ends.now) × ((counts : List ℕ) × Counted n ends.now counts × Summed n counts offsets.old) }
+    requires starts { length offsets.old ≡ n + 1 }
+    requires few { length ends.now ≤ 32768 }
+    requires same { length far.old ≡ length ends.now }
+    requires summed { (counts : List ℕ) × Counted n ends.now counts × Summed n counts offsets.old }
     ensures { Neighbours n ends.now offsets.new far.new }
 {
-    let mut p = ends.len();
-    while p > 0 {
-        p -= 1;
+    for p in (0..ends.len()).rev() {
         let v = ends[p];
         if v < n {
             let k = offsets[v as usize] - 1;
@@ -55,7 +55,9 @@ fn place_ends(ends: &[u16], n: u16, offsets: &mut [u16], far: &mut [u16])
 
 // The table of n nodes: offsets has n + 1 entries, far one for each end.
 pub fn neighbours(ends: &[u16], n: u16, offsets: &mut [u16], far: &mut [u16])
-    requires { (length offsets.old ≡ n + 1) × (length ends.now ≤ 32768) × (length far.old ≡ length ends.now) }
+    requires starts { length offsets.old ≡ n + 1 }
+    requires few { length ends.now ≤ 32768 }
+    requires same { length far.old ≡ length ends.now }
     ensures { Neighbours n ends.now offsets.new far.new }
 {
     count_ends(ends, n, offsets);

@@ -16,7 +16,7 @@ use clearing::{clear, clear_duals};
 use plan::answers::Answer;
 
 // An edge: its two nodes and its weight.
-#[derive(Clone, Copy)]
+#[derive(Clone, Copy, Debug, PartialEq, Eq)]
 pub struct EdgeEntry {
     pub first: u16,
     pub second: u16,
@@ -32,7 +32,7 @@ pub struct EdgeLists {
     pub count: usize,
 }
 
-// Of more than 2,048 entries none is copied, and the count tells.
+// Of more than 2,048 entries none is copied, and the count tells. Document 01 has the outer functions read the entries by hand.
 fn split(edges: &[EdgeEntry]) -> EdgeLists
     ensures { result ≡ lists_of edges.now }
 {

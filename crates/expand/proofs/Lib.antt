@@ -1,4 +1,3 @@
--- The laws of a group taken apart.
+-- Laws of an expansion.
 pub mod FreeLaws
-pub mod RelabelLaws
-pub mod WithinLaws
+pub mod WalkLaws

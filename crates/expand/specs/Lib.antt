@@ -1,3 +1,3 @@
--- What the lists stand for where a group is taken apart, and parts of the definition.
-pub mod View
+-- What the answers of an expansion's routines stand for, and parts of the definition.
 pub mod Parts
+pub mod Told

@@ -1,227 +1,208 @@
 // The children of a group become outermost, and the group's number is free again.
-ghost use Rattle.std.specs.Prelude.{◌≡◌, true, false, List, ℕ, ◌*◌, ◌-◌, ◌≤◌, ◌<◌, length, take};
-ghost use Rattle.laws.specs.Rows.{row_of};
-ghost use Rattle.laws.specs.Run.{Run, for_each};
-ghost use Rattle.matching.specs.Graph.{Edge as EdgeOf, graph_of};
-ghost use Rattle.numbers.specs.View.{Agrees, counted};
-ghost use Rattle.numbers.specs.Pools.{pooled, PoolFits};
-ghost use Rattle.steps.specs.State.{State};
-ghost use Rattle.steps.specs.Stores.{with_tops, with_children};
-ghost use Rattle.steps.specs.Expand.{bring_top, keep_child, free_child, retire as retire_of, expand_group};
-ghost use Rattle.expand.specs.View.{ringed, topped, retired, emptied, FreeFits};
+ghost use Rattle.std.specs.Prelude.{◌≡◌, ◌*◌, ◌≤◌};
+ghost use Rattle.laws.specs.Run.{for_each};
+ghost use Rattle.steps.specs.State.{Progress};
+ghost use Rattle.steps.specs.Expand.{bring_top as bring_top_of, keep_child as keep_child_of, free_group as free_group_of, free_child as free_child_of, retire as retire_of, expand_group as expand_group_of, expand_top};
+ghost use Rattle.numbers.specs.Answers.{Agrees};
+ghost use Rattle.state.specs.Parts.{state_of, sized, size_of};
+ghost use Rattle.expand.specs.Parts.{free_children as free_children_of, take_apart as take_apart_of};
 
-use crate::ROOM;
-use labels::leaves::leaves;
-use numbers::pools::{group_at, row_len};
-use numbers::{Got, Group, MISSING, push, store};
+use crate::walk::relabel_ring;
+use edges::graph::Graph;
+use numbers::faults::Fault;
+use numbers::{Edge, End, Group, MISSING, Node};
+use state::lists::Lists;
+use state::pools::Stack;
 
-// The first count nodes of a list have c as their outermost group.
-fn bring_top(tops: &mut [u16], c: Group, nodes: &[u16], count: u16) -> bool
-    requires { count ≤ length nodes.now }
-    ensures { (s : State) → Agrees (for_each (bring_top c.0) (take count nodes.now) (with_tops tops.old s)) result (with_tops tops.new s) }
+// These nodes have c as their outermost group.
+#[tactic(auto, unfolding(steps::specs::Expand::bring_top))]
+fn bring_top(lists: &mut Lists, c: Group, nodes: &[u16]) -> Result<(), Fault>
+    ensures said { (at : Progress) → Agrees (for_each (bring_top_of c.0) nodes.now (state_of lists.old at)) result (state_of lists.new at) }
+    ensures size { sized lists.new ≡ sized lists.old }
+    ensures kids { lists.new.forest.kids ≡ lists.old.forest.kids }
 {
-    let x = c.number();
-    for k in 0..count {
-        let v = nodes[k as usize];
-        if !store(tops, v, x) {
-            return false;
-        }
+    for &v in nodes {
+        lists.put_top(Node(v), c)?;
     }
-    true
+    Ok(())
 }
 
 // A child group stays a group: its nodes have it as their outermost.
-fn keep_child(tops: &mut [u16], kids: &[u16], counts: &[u16], n: u16, c: Group) -> bool
-    requires { (n ≤ 512) × PoolFits n counts.now kids.now }
-    ensures { (edges : List EdgeOf) (s : State) → Agrees (keep_child (graph_of n edges) c.0 (with_tops tops.old (with_children (pooled n counts.now kids.now) s))) result (with_tops tops.new (with_children (pooled n counts.now kids.now) s)) }
+#[tactic(auto, unfolding(steps::specs::Expand::keep_child, steps::specs::Leaves::leaves_of, steps::specs::Leaves::leaves_after))]
+fn keep_child(g: &Graph, lists: &mut Lists, nodes: &mut Stack, c: Group) -> Result<(), Fault>
+    requires { (sized lists.old ≡ size_of g.now) × (nodes.old.room ≡ 2 * g.now.nodes) }
+    ensures said { (at : Progress) → Agrees (keep_child_of g.now c.0 (state_of lists.old at)) result (state_of lists.new at) }
+    ensures size { sized lists.new ≡ sized lists.old }
+    ensures kids { lists.new.forest.kids ≡ lists.old.forest.kids }
+    ensures room { nodes.new.room ≡ nodes.old.room }
 {
-    let mut nodes = [0u16; ROOM];
-    let Got::At(count) = leaves(kids, counts, n, 2 * n, n, c, &mut nodes, 0) else {
-        return false;
-    };
-    bring_top(tops, c, &nodes, count)
+    nodes.clear();
+    lists.leaves(g, c, nodes)?;
+    bring_top(lists, c, nodes.entries())?;
+    Ok(())
 }
 
-// Within a stage: child c has no parent, a node is its own outermost group, and a group stays one.
-fn free_kept(
-    parents: &mut [u16],
-    tops: &mut [u16],
-    kids: &[u16],
-    counts: &[u16],
-    n: u16,
+// Group b is no more, and its number is free.
+#[tactic(auto, unfolding(steps::specs::Expand::retire))]
+fn retire(g: &Graph, lists: &mut Lists, b: Group) -> Result<(), Fault>
+    requires { sized lists.old ≡ size_of g.now }
+    ensures said { (at : Progress) → Agrees (retire_of g.now b.0 (state_of lists.old at)) result (state_of lists.new at) }
+    ensures size { sized lists.new ≡ sized lists.old }
+    ensures kids { lists.new.forest.kids ≡ lists.old.forest.kids }
+{
+    lists.put_label(b.0, MISSING)?;
+    lists.put_label_end(b.0, End(MISSING))?;
+    lists.clear_children(b)?;
+    lists.clear_ring_ends(b)?;
+    lists.put_base(b, Node(MISSING))?;
+    lists.put_best(b.0, Edge(MISSING))?;
+    lists.free_number(g, b)?;
+    Ok(())
+}
+
+// A child group: at the end of a stage one with dual 0 is expanded in its turn.
+#[cycle(expanding)]
+#[tactic(auto, unfolding(steps::specs::Expand::free_group))]
+fn free_group(
+    g: &Graph,
+    lists: &mut Lists,
+    nodes: &mut Stack,
+    depth: u16,
+    last: bool,
     c: Group,
-) -> bool
-    requires { (n ≤ 512) × PoolFits n counts.now kids.now }
-    ensures { (edges : List EdgeOf) (sub : ℕ → State → Run State) (s : State) → Agrees (free_child (graph_of n edges) sub false c.0 (topped tops.old parents.old (with_children (pooled n counts.now kids.now) s))) result (topped tops.new parents.new (with_children (pooled n counts.now kids.now) s)) }
+) -> Result<(), Fault>
+    requires { (sized lists.old ≡ size_of g.now) × (nodes.old.room ≡ 2 * g.now.nodes) }
+    ensures said { (at : Progress) → Agrees (free_group_of g.now (expand_group_of g.now depth last) last c.0 (state_of lists.old at)) result (state_of lists.new at) }
+    ensures size { sized lists.new ≡ sized lists.old }
+    ensures kids { lists.new.forest.kids ≡ lists.old.forest.kids }
+    ensures room { nodes.new.room ≡ nodes.old.room }
 {
-    let x = c.number();
-    if !store(parents, x, MISSING) {
-        return false;
-    }
-    if x < n {
-        return store(tops, x, x);
-    }
-    keep_child(tops, kids, counts, n, c)
-}
-
-// The children of group b, within a stage.
-pub(crate) fn free_all(
-    parents: &mut [u16],
-    tops: &mut [u16],
-    kids: &[u16],
-    counts: &[u16],
-    n: u16,
-    b: Group,
-) -> bool
-    requires { (n ≤ 512) × PoolFits n counts.now kids.now × (n ≤ b.0) × (b.0 < 2 * n) }
-    ensures { (edges : List EdgeOf) (sub : ℕ → State → Run State) (s : State) → Agrees (for_each (free_child (graph_of n edges) sub false) (row_of n counts.now kids.now (b.0 - n)) (topped tops.old parents.old (with_children (pooled n counts.now kids.now) s))) result (topped tops.new parents.new (with_children (pooled n counts.now kids.now) s)) }
-{
-    let g = b.number() - n;
-    let m = row_len(counts, n, g);
-    for k in 0..m {
-        let child = group_at(kids, n, g, k);
-        if !free_kept(parents, tops, kids, counts, n, child) {
-            return false;
+    if last {
+        let d = lists.dual(c.0)?;
+        if d == 0 {
+            expand_group(g, lists, nodes, depth, last, c)?;
+            return Ok(());
         }
     }
-    true
+    keep_child(g, lists, nodes, c)?;
+    Ok(())
 }
 
-// Group b is no more; its number goes on the end of the free numbers. The answer is how many are free then.
-pub(crate) fn retire(
-    labels: &mut [u16],
-    label_ends: &mut [u16],
-    best: &mut [u16],
-    bases: &mut [u16],
-    counts: &mut [u16],
-    free: &mut [u16],
-    unused: u16,
-    n: u16,
-    b: Group,
-) -> Got
-    requires { (length counts.old ≡ n) × (n ≤ length free.old) × (n ≤ b.0) }
-    ensures { (edges : List EdgeOf) (kids links : List ℕ) (s : State) → counted result (λ k. retired labels.new label_ends.new best.new bases.new (take k free.new) (ringed n counts.new kids links s)) ≡ retire_of (graph_of n edges) b.0 (retired labels.old label_ends.old best.old bases.old (take unused free.old) (ringed n counts.old kids links s)) }
-{
-    let x = b.number();
-    if !store(labels, x, MISSING) {
-        return Got::Out;
-    }
-    if !store(label_ends, x, MISSING) {
-        return Got::Out;
-    }
-    if !store(counts, x - n, 0) {
-        return Got::Out;
-    }
-    if !store(bases, x, MISSING) {
-        return Got::Out;
-    }
-    if !store(best, x, MISSING) {
-        return Got::Out;
-    }
-    push(free, unused, n, x)
-}
-
-// At the end of a stage: child c has no parent, a node is its own outermost group, and a group with dual 0 is expanded in its turn.
-// The answer is how many numbers are free then.
-#[cycle(free)]
-fn free_last(
-    parents: &mut [u16],
-    tops: &mut [u16],
-    labels: &mut [u16],
-    label_ends: &mut [u16],
-    best: &mut [u16],
-    bases: &mut [u16],
-    counts: &mut [u16],
-    free: &mut [u16],
-    unused: u16,
-    kids: &[u16],
-    duals: &[i64],
-    n: u16,
+// Child c becomes outermost.
+#[cycle(expanding)]
+#[tactic(auto, unfolding(steps::specs::Expand::free_child))]
+fn free_child(
+    g: &Graph,
+    lists: &mut Lists,
+    nodes: &mut Stack,
+    depth: u16,
+    last: bool,
     c: Group,
-    depth: u16,
-) -> Got
-    requires { FreeFits n counts.old kids.now free.old }
-    ensures { (edges : List EdgeOf) (links : List ℕ) (s : State) → counted result (λ k. emptied n tops.new parents.new labels.new label_ends.new best.new bases.new (take k free.new) counts.new kids.now links duals.now s) ≡ free_child (graph_of n edges) (λ c s. expand_group (graph_of n edges) depth true c s) true c.0 (emptied n tops.old parents.old labels.old label_ends.old best.old bases.old (take unused free.old) counts.old kids.now links duals.now s) }
+) -> Result<(), Fault>
+    requires { (sized lists.old ≡ size_of g.now) × (nodes.old.room ≡ 2 * g.now.nodes) }
+    ensures said { (at : Progress) → Agrees (free_child_of g.now (expand_group_of g.now depth last) last c.0 (state_of lists.old at)) result (state_of lists.new at) }
+    ensures size { sized lists.new ≡ sized lists.old }
+    ensures kids { lists.new.forest.kids ≡ lists.old.forest.kids }
+    ensures room { nodes.new.room ≡ nodes.old.room }
 {
-    let x = c.number();
-    if !store(parents, x, MISSING) {
-        return Got::Out;
+    lists.put_parent(c, Group(MISSING))?;
+    if c.0 < g.nodes() {
+        lists.put_top(Node(c.0), c)?;
+        return Ok(());
     }
-    if x < n {
-        return if store(tops, x, x) {
-            Got::At(unused)
-        } else {
-            Got::Out
-        };
-    }
-    let i = x as usize;
-    if i >= duals.len() {
-        return Got::Out;
-    }
-    if duals[i] == 0 {
-        return expand_last(
-            parents, tops, labels, label_ends, best, bases, counts, free, unused, kids, duals, n,
-            c, depth,
-        );
-    }
-    if keep_child(tops, kids, counts, n, c) {
-        Got::At(unused)
-    } else {
-        Got::Out
-    }
+    free_group(g, lists, nodes, depth, last, c)?;
+    Ok(())
 }
 
-// Group b, and its child groups with dual 0, at the end of a stage; the answer is how many numbers are free then.
-#[cycle(free)]
-pub fn expand_last(
-    parents: &mut [u16],
-    tops: &mut [u16],
-    labels: &mut [u16],
-    label_ends: &mut [u16],
-    best: &mut [u16],
-    bases: &mut [u16],
-    counts: &mut [u16],
-    free: &mut [u16],
-    unused: u16,
-    kids: &[u16],
-    duals: &[i64],
-    n: u16,
-    b: Group,
+// The children of b become outermost. They are read by their places, which stay while the lists change.
+#[cycle(expanding)]
+#[tactic(auto, using(crate::proofs::FreeLaws::kids_turns), unfolding(crate::specs::Parts::free_children))]
+fn free_children(
+    g: &Graph,
+    lists: &mut Lists,
+    nodes: &mut Stack,
     depth: u16,
-) -> Got
-    requires { FreeFits n counts.old kids.now free.old × (n ≤ b.0) }
-    ensures { (edges : List EdgeOf) (links : List ℕ) (s : State) → counted result (λ k. emptied n tops.new parents.new labels.new label_ends.new best.new bases.new (take k free.new) counts.new kids.now links duals.now s) ≡ expand_group (graph_of n edges) depth true b.0 (emptied n tops.old parents.old labels.old label_ends.old best.old bases.old (take unused free.old) counts.old kids.now links duals.now s) }
+    last: bool,
+    b: Group,
+) -> Result<(), Fault>
+    requires { (sized lists.old ≡ size_of g.now) × (nodes.old.room ≡ 2 * g.now.nodes) }
+    ensures said { (at : Progress) → Agrees (free_children_of g.now (expand_group_of g.now depth last) last b.0 (state_of lists.old at)) result (state_of lists.new at) }
+    ensures size { sized lists.new ≡ sized lists.old }
+    ensures kids { lists.new.forest.kids ≡ lists.old.forest.kids }
+    ensures room { nodes.new.room ≡ nodes.old.room }
+{
+    let m = lists.child_count(b)?;
+    for k in 0..m {
+        let c = lists.child_at(b, k);
+        free_child(g, lists, nodes, depth, last, c)?;
+    }
+    Ok(())
+}
+
+// Group b, whose child groups are expanded at most `depth` deep.
+#[cycle(expanding)]
+#[tactic(auto, unfolding(crate::specs::Parts::take_apart))]
+fn take_apart(
+    g: &Graph,
+    lists: &mut Lists,
+    nodes: &mut Stack,
+    depth: u16,
+    last: bool,
+    b: Group,
+) -> Result<(), Fault>
+    requires { (sized lists.old ≡ size_of g.now) × (nodes.old.room ≡ 2 * g.now.nodes) }
+    ensures said { (at : Progress) → Agrees (take_apart_of g.now (expand_group_of g.now depth last) last b.0 (state_of lists.old at)) result (state_of lists.new at) }
+    ensures size { sized lists.new ≡ sized lists.old }
+    ensures kids { lists.new.forest.kids ≡ lists.old.forest.kids }
+    ensures room { nodes.new.room ≡ nodes.old.room }
+{
+    free_children(g, lists, nodes, depth, last, b)?;
+    let l = lists.label(b.0)?;
+    if !last && l == 2 {
+        relabel_ring(g, lists, nodes, b)?;
+    }
+    retire(g, lists, b)?;
+    Ok(())
+}
+
+// The same, where groups nest at most `depth` deep.
+#[cycle(expanding)]
+#[tactic(auto, using(crate::proofs::FreeLaws::levels))]
+fn expand_group(
+    g: &Graph,
+    lists: &mut Lists,
+    nodes: &mut Stack,
+    depth: u16,
+    last: bool,
+    b: Group,
+) -> Result<(), Fault>
+    requires { (sized lists.old ≡ size_of g.now) × (nodes.old.room ≡ 2 * g.now.nodes) }
+    ensures said { (at : Progress) → Agrees (expand_group_of g.now depth last b.0 (state_of lists.old at)) result (state_of lists.new at) }
+    ensures size { sized lists.new ≡ sized lists.old }
+    ensures kids { lists.new.forest.kids ≡ lists.old.forest.kids }
+    ensures room { nodes.new.room ≡ nodes.old.room }
 {
     if depth == 0 {
-        return Got::Out;
+        return Err(Fault);
     }
-    let g = b.number() - n;
-    if g >= n {
-        return Got::Out;
-    }
-    let m = row_len(counts, n, g);
-    let mut spare = unused;
-    for k in 0..m {
-        let child = group_at(kids, n, g, k);
-        let Got::At(more) = free_last(
-            parents,
-            tops,
-            labels,
-            label_ends,
-            best,
-            bases,
-            counts,
-            free,
-            spare,
-            kids,
-            duals,
-            n,
-            child,
-            depth - 1,
-        ) else {
-            return Got::Out;
-        };
-        spare = more;
-    }
-    retire(labels, label_ends, best, bases, counts, free, spare, n, b)
+    take_apart(g, lists, nodes, depth - 1, last, b)?;
+    Ok(())
+}
+
+// Group b is taken apart, at the end of a stage where `last`. Nodes is room for 2n.
+#[tactic(auto, unfolding(steps::specs::Expand::expand_top))]
+pub fn expand(
+    g: &Graph,
+    lists: &mut Lists,
+    nodes: &mut Stack,
+    last: bool,
+    b: Group,
+) -> Result<(), Fault>
+    requires { (sized lists.old ≡ size_of g.now) × (nodes.old.room ≡ 2 * g.now.nodes) }
+    ensures said { (at : Progress) → Agrees (expand_top g.now last b.0 (state_of lists.old at)) result (state_of lists.new at) }
+    ensures size { sized lists.new ≡ sized lists.old }
+    ensures room { nodes.new.room ≡ nodes.old.room }
+{
+    expand_group(g, lists, nodes, g.nodes(), last, b)?;
+    Ok(())
 }

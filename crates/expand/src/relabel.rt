@@ -1,241 +1,132 @@
-// A label-2 group is expanded within a stage: its children get labels anew.
-ghost use Rattle.std.specs.Prelude.{◌≡◌, true, List, ℕ, ◌*◌, ◌/◌, ◌≤◌, length, take};
-ghost use Rattle.laws.specs.Run.{put};
-ghost use Rattle.matching.specs.Graph.{Edge as EdgeOf, graph_of};
-ghost use Rattle.numbers.specs.View.{Agrees, counted, got_node};
-ghost use Rattle.numbers.specs.Edges.{ends_of};
-ghost use Rattle.steps.specs.State.{State};
-ghost use Rattle.steps.specs.Stores.{with_labels};
-ghost use Rattle.steps.specs.Expand.{unlabel as unlabel_of, relabel_base, first_labelled, relabel_from, relabel_reached};
-ghost use Rattle.labels.specs.View.{marked};
-ghost use Rattle.expand.specs.View.{relabelled, PassFits};
-ghost use Rattle.expand.specs.Parts.{pass_on, onward_child};
+// A label-2 group is expanded within a stage: a child gets its label anew.
+ghost use Rattle.std.specs.Prelude.{◌≡◌, ◌*◌};
+ghost use Rattle.steps.specs.State.{Progress};
+ghost use Rattle.steps.specs.Expand.{unlabel as unlabel_of, relabel_base as relabel_base_of, first_labelled as first_labelled_of, relabel_from as relabel_from_of, relabel_reached as relabel_reached_of};
+ghost use Rattle.numbers.specs.Answers.{Agrees, AnswersNode};
+ghost use Rattle.state.specs.Parts.{state_of, sized, size_of};
+ghost use Rattle.expand.specs.Parts.{pass_on as pass_on_of, onward_child as onward_child_of};
 
-use crate::ROOM;
-use labels::leaves::leaves;
-use labels::marks::{base_mate, label_two};
-use numbers::{End, Got, GotEnd, GotNode, Group, MISSING, Node, end_in, get, node_in, store};
+use edges::graph::Graph;
+use numbers::faults::{Fault, must, present};
+use numbers::{Edge, End, Group, MISSING, Node};
+use state::lists::Lists;
+use state::pools::Stack;
 
 // Label 0 again for the node beside end p.
-pub(crate) fn unlabel(ends: &[u16], labels: &mut [u16], p: End) -> bool
-    ensures { (n : ℕ) (edges : List EdgeOf) → ends_of edges ≡ ends.now → (s : State) → Agrees (unlabel_of (graph_of n edges) p.0 (with_labels labels.old s)) result (with_labels labels.new s) }
+#[tactic(auto, unfolding(steps::specs::Expand::unlabel))]
+pub(crate) fn unlabel(g: &Graph, lists: &mut Lists, p: End) -> Result<(), Fault>
+    ensures said { (at : Progress) → Agrees (unlabel_of g.now p.0 (state_of lists.old at)) result (state_of lists.new at) }
+    ensures size { sized lists.new ≡ sized lists.old }
+    ensures kids { lists.new.forest.kids ≡ lists.old.forest.kids }
 {
-    let q = p.beside();
-    let GotNode::At(v) = node_in(ends, q.number()) else {
-        return false;
-    };
-    store(labels, v.number(), 0)
-}
-
-// The edge of end p is allowed.
-pub(crate) fn allow(allowed: &mut [bool], p: End) -> bool
-    ensures { Agrees (put allowed.old (p.0 / 2) true) result allowed.new }
-{
-    let e = p.edge();
-    let i = e.number() as usize;
-    if i < allowed.len() {
-        allowed[i] = true;
-        true
-    } else {
-        false
-    }
+    let w = g.endpoint(p.beside())?;
+    lists.put_label(w.0, 0)?;
+    Ok(())
 }
 
 // The base child gets label 2 through end p, and passes none to its mate.
-pub(crate) fn relabel_base(
-    ends: &[u16],
-    labels: &mut [u16],
-    label_ends: &mut [u16],
-    best: &mut [u16],
-    base: Group,
-    p: End,
-) -> bool
-    ensures { (n : ℕ) (edges : List EdgeOf) → ends_of edges ≡ ends.now → (s : State) → Agrees (relabel_base (graph_of n edges) base.0 p.0 (marked labels.old label_ends.old best.old s)) result (marked labels.new label_ends.new best.new s) }
+#[tactic(auto, unfolding(steps::specs::Expand::relabel_base))]
+pub(crate) fn relabel_base(g: &Graph, lists: &mut Lists, base: Group, p: End) -> Result<(), Fault>
+    ensures said { (at : Progress) → Agrees (relabel_base_of g.now base.0 p.0 (state_of lists.old at)) result (state_of lists.new at) }
+    ensures size { sized lists.new ≡ sized lists.old }
+    ensures kids { lists.new.forest.kids ≡ lists.old.forest.kids }
 {
-    let x = base.number();
-    let e = p.number();
-    let q = p.beside();
-    let GotNode::At(node) = node_in(ends, q.number()) else {
-        return false;
-    };
-    let v = node.number();
-    if !store(labels, v, 2) {
-        return false;
-    }
-    if !store(labels, x, 2) {
-        return false;
-    }
-    if !store(label_ends, v, e) {
-        return false;
-    }
-    if !store(label_ends, x, e) {
-        return false;
-    }
-    store(best, x, MISSING)
+    let v = g.endpoint(p.beside())?;
+    lists.put_label(v.0, 2)?;
+    lists.put_label(base.0, 2)?;
+    lists.put_label_end(v.0, p)?;
+    lists.put_label_end(base.0, p)?;
+    lists.put_best(base.0, Edge(MISSING))?;
+    Ok(())
 }
 
-// The first of the first count nodes with a label, or else the last; 0 where there is none.
-fn first_labelled(labels: &[u16], nodes: &[u16], count: u16) -> GotNode
-    requires { count ≤ length nodes.now }
-    ensures { (s : State) → got_node result ≡ first_labelled (with_labels labels.now s) 0 (take count nodes.now) }
+// The first node with a label, or else the last; 0 where there is none.
+#[tactic(auto, unfolding(steps::specs::Expand::first_labelled))]
+fn first_labelled(lists: &Lists, nodes: &[u16]) -> Result<Node, Fault>
+    ensures { (at : Progress) → AnswersNode (first_labelled_of (state_of lists.now at) 0 nodes.now) result }
 {
-    let mut v: u16 = 0;
-    for k in 0..count {
-        v = nodes[k as usize];
-        let Got::At(l) = get(labels, v) else {
-            return GotNode::Out;
-        };
-        if l == MISSING {
-            return GotNode::Out;
-        }
+    let mut v = 0;
+    for &x in nodes {
+        let l = lists.label(x)?;
+        present(l)?;
         if l != 0 {
-            return GotNode::At(Node(v));
+            return Ok(Node(x));
         }
+        v = x;
     }
-    GotNode::At(Node(v))
+    Ok(Node(v))
 }
 
 // The mate of the base of child c loses its label, and node v of c gets label 2 through the end that reached it.
-fn pass_on(
-    ends: &[u16],
-    labels: &mut [u16],
-    label_ends: &mut [u16],
-    best: &mut [u16],
-    queue: &mut [u16],
-    queued: u16,
-    tops: &[u16],
-    bases: &[u16],
-    mates: &[u16],
-    kids: &[u16],
-    counts: &[u16],
-    n: u16,
-    c: Group,
-    v: Node,
-) -> Got
-    requires { PassFits n queue.old counts.now kids.now mates.now ends.now }
-    ensures { (edges : List EdgeOf) → ends_of edges ≡ ends.now → (s : State) → counted result (λ k. relabelled n labels.new label_ends.new best.new (take k queue.new) tops.now bases.now mates.now counts.now kids.now s) ≡ pass_on (graph_of n edges) c.0 v.0 (relabelled n labels.old label_ends.old best.old (take queued queue.old) tops.now bases.now mates.now counts.now kids.now s) }
+#[tactic(auto, unfolding(crate::specs::Parts::pass_on))]
+fn pass_on(g: &Graph, lists: &mut Lists, c: Group, v: Node) -> Result<(), Fault>
+    requires { sized lists.old ≡ size_of g.now }
+    ensures said { (at : Progress) → Agrees (pass_on_of g.now c.0 v.0 (state_of lists.old at)) result (state_of lists.new at) }
+    ensures size { sized lists.new ≡ sized lists.old }
+    ensures kids { lists.new.forest.kids ≡ lists.old.forest.kids }
 {
-    let GotEnd::At(m) = base_mate(bases, mates, c) else {
-        return Got::Out;
-    };
-    let GotNode::At(u) = node_in(ends, m.number()) else {
-        return Got::Out;
-    };
-    if !store(labels, u.number(), 0) {
-        return Got::Out;
-    }
-    let GotEnd::At(p) = end_in(label_ends, v.number()) else {
-        return Got::Out;
-    };
-    label_two(
-        ends, labels, label_ends, best, queue, queued, tops, bases, mates, kids, counts, n, v, p,
-    )
+    let m = lists.base_mate(c)?;
+    present(m.0)?;
+    let u = g.endpoint(m)?;
+    lists.put_label(u.0, 0)?;
+    let p = lists.label_end(v.alone())?;
+    lists.label_two(g, v, p)?;
+    Ok(())
 }
 
 // Node v of child c was reached from outside: the child gets label 2 through the end that reached v.
-fn relabel_from(
-    ends: &[u16],
-    labels: &mut [u16],
-    label_ends: &mut [u16],
-    best: &mut [u16],
-    queue: &mut [u16],
-    queued: u16,
-    tops: &[u16],
-    bases: &[u16],
-    mates: &[u16],
-    kids: &[u16],
-    counts: &[u16],
-    n: u16,
-    c: Group,
-    v: Node,
-) -> Got
-    requires { PassFits n queue.old counts.now kids.now mates.now ends.now }
-    ensures { (edges : List EdgeOf) → ends_of edges ≡ ends.now → (s : State) → counted result (λ k. relabelled n labels.new label_ends.new best.new (take k queue.new) tops.now bases.now mates.now counts.now kids.now s) ≡ relabel_from (graph_of n edges) c.0 v.0 (relabelled n labels.old label_ends.old best.old (take queued queue.old) tops.now bases.now mates.now counts.now kids.now s) }
+#[tactic(auto, unfolding(steps::specs::Expand::relabel_from, crate::specs::Parts::pass_on))]
+fn relabel_from(g: &Graph, lists: &mut Lists, c: Group, v: Node) -> Result<(), Fault>
+    requires { sized lists.old ≡ size_of g.now }
+    ensures said { (at : Progress) → Agrees (relabel_from_of g.now c.0 v.0 (state_of lists.old at)) result (state_of lists.new at) }
+    ensures size { sized lists.new ≡ sized lists.old }
+    ensures kids { lists.new.forest.kids ≡ lists.old.forest.kids }
 {
-    let x = v.number();
-    let Got::At(l) = get(labels, x) else {
-        return Got::Out;
-    };
-    if l != 2 {
-        return Got::Out;
-    }
-    let Got::At(t) = get(tops, x) else {
-        return Got::Out;
-    };
-    if t != c.number() {
-        return Got::Out;
-    }
-    if !store(labels, x, 0) {
-        return Got::Out;
-    }
-    pass_on(
-        ends, labels, label_ends, best, queue, queued, tops, bases, mates, kids, counts, n, c, v,
-    )
+    let l = lists.label(v.0)?;
+    must(l == 2)?;
+    let t = lists.top(v)?;
+    must(t.0 == c.0)?;
+    lists.put_label(v.0, 0)?;
+    pass_on(g, lists, c, v)?;
+    Ok(())
 }
 
 // A child whose nodes may have been reached from outside.
-fn relabel_reached(
-    ends: &[u16],
-    labels: &mut [u16],
-    label_ends: &mut [u16],
-    best: &mut [u16],
-    queue: &mut [u16],
-    queued: u16,
-    tops: &[u16],
-    bases: &[u16],
-    mates: &[u16],
-    kids: &[u16],
-    counts: &[u16],
-    n: u16,
-    c: Group,
-) -> Got
-    requires { PassFits n queue.old counts.now kids.now mates.now ends.now }
-    ensures { (edges : List EdgeOf) → ends_of edges ≡ ends.now → (s : State) → counted result (λ k. relabelled n labels.new label_ends.new best.new (take k queue.new) tops.now bases.now mates.now counts.now kids.now s) ≡ relabel_reached (graph_of n edges) c.0 (relabelled n labels.old label_ends.old best.old (take queued queue.old) tops.now bases.now mates.now counts.now kids.now s) }
+#[tactic(auto, unfolding(steps::specs::Expand::relabel_reached, steps::specs::Leaves::leaves_of, steps::specs::Leaves::leaves_after))]
+fn relabel_reached(g: &Graph, lists: &mut Lists, nodes: &mut Stack, c: Group) -> Result<(), Fault>
+    requires { (sized lists.old ≡ size_of g.now) × (nodes.old.room ≡ 2 * g.now.nodes) }
+    ensures said { (at : Progress) → Agrees (relabel_reached_of g.now c.0 (state_of lists.old at)) result (state_of lists.new at) }
+    ensures size { sized lists.new ≡ sized lists.old }
+    ensures kids { lists.new.forest.kids ≡ lists.old.forest.kids }
+    ensures room { nodes.new.room ≡ nodes.old.room }
 {
-    let mut nodes = [0u16; ROOM];
-    let Got::At(count) = leaves(kids, counts, n, 2 * n, n, c, &mut nodes, 0) else {
-        return Got::Out;
-    };
-    let GotNode::At(v) = first_labelled(labels, &nodes, count) else {
-        return Got::Out;
-    };
-    let Got::At(l) = get(labels, v.number()) else {
-        return Got::Out;
-    };
-    if l == 0 {
-        return Got::At(queued);
+    nodes.clear();
+    lists.leaves(g, c, nodes)?;
+    let v = first_labelled(lists, nodes.entries())?;
+    let found = lists.label(v.0)?;
+    if found != 0 {
+        relabel_from(g, lists, c, v)?;
     }
-    relabel_from(
-        ends, labels, label_ends, best, queue, queued, tops, bases, mates, kids, counts, n, c, v,
-    )
+    Ok(())
 }
 
 // A child that has label 1 by now is left as it is.
+#[tactic(auto, unfolding(crate::specs::Parts::onward_child))]
 pub(crate) fn onward_child(
-    ends: &[u16],
-    labels: &mut [u16],
-    label_ends: &mut [u16],
-    best: &mut [u16],
-    queue: &mut [u16],
-    queued: u16,
-    tops: &[u16],
-    bases: &[u16],
-    mates: &[u16],
-    kids: &[u16],
-    counts: &[u16],
-    n: u16,
+    g: &Graph,
+    lists: &mut Lists,
+    nodes: &mut Stack,
     c: Group,
-) -> Got
-    requires { PassFits n queue.old counts.now kids.now mates.now ends.now }
-    ensures { (edges : List EdgeOf) → ends_of edges ≡ ends.now → (s : State) → counted result (λ k. relabelled n labels.new label_ends.new best.new (take k queue.new) tops.now bases.now mates.now counts.now kids.now s) ≡ onward_child (graph_of n edges) c.0 (relabelled n labels.old label_ends.old best.old (take queued queue.old) tops.now bases.now mates.now counts.now kids.now s) }
+) -> Result<(), Fault>
+    requires { (sized lists.old ≡ size_of g.now) × (nodes.old.room ≡ 2 * g.now.nodes) }
+    ensures said { (at : Progress) → Agrees (onward_child_of g.now c.0 (state_of lists.old at)) result (state_of lists.new at) }
+    ensures size { sized lists.new ≡ sized lists.old }
+    ensures kids { lists.new.forest.kids ≡ lists.old.forest.kids }
+    ensures room { nodes.new.room ≡ nodes.old.room }
 {
-    let Got::At(l) = get(labels, c.number()) else {
-        return Got::Out;
-    };
-    if l == 1 {
-        return Got::At(queued);
+    let l = lists.label(c.0)?;
+    if l != 1 {
+        relabel_reached(g, lists, nodes, c)?;
     }
-    relabel_reached(
-        ends, labels, label_ends, best, queue, queued, tops, bases, mates, kids, counts, n, c,
-    )
+    Ok(())
 }

@@ -1,202 +1,170 @@
 // A label-2 group is expanded within a stage: the walk round the ring of its children.
-ghost use Rattle.std.specs.Prelude.{◌≡◌, List, ◌*◌, ◌-◌, ◌<◌, length, take};
-ghost use Rattle.laws.specs.Rows.{row_of};
-ghost use Rattle.laws.specs.Run.{ok, and_then, while};
-ghost use Rattle.matching.specs.Graph.{Edge as EdgeOf, graph_of};
-ghost use Rattle.numbers.specs.View.{counted};
-ghost use Rattle.numbers.specs.Edges.{ends_of};
-ghost use Rattle.steps.specs.State.{State};
-ghost use Rattle.steps.specs.Ring.{around as around_of};
-ghost use Rattle.steps.specs.Expand.{relabel_goes, relabel_move, onward_goes, onward_move};
-ghost use Rattle.augment.specs.View.{Ring};
-ghost use Rattle.expand.specs.View.{relabelled, walking, walked, PassFits, RingFits};
-ghost use Rattle.expand.specs.Parts.{relabel_on};
+ghost use Rattle.std.specs.Prelude.{◌≡◌, ◌*◌, ◌≤◌, length};
+ghost use Rattle.steps.specs.State.{Progress};
+ghost use Rattle.steps.specs.Expand.{relabel_move as relabel_move_of, relabel_ring as relabel_ring_of};
+ghost use Rattle.numbers.specs.Answers.{Agrees};
+ghost use Rattle.state.specs.Parts.{state_of, sized, size_of};
+ghost use Rattle.expand.specs.Parts.{to_base, to_entry};
+ghost use Rattle.expand.specs.Told.{Links, LinksOn, Relabels, relabel_at};
 
-use crate::Walked;
-use crate::relabel::{allow, onward_child, unlabel};
-use augment::ring::{around, link_end};
-use labels::marks::label_two;
-use numbers::pools::group_at;
-use numbers::{End, Got, GotEnd, GotNode, Group, node_in};
+use crate::relabel::{onward_child, relabel_base, unlabel};
+use edges::graph::Graph;
+use numbers::faults::{Fault, present, read};
+use numbers::{End, Group};
+use state::lists::Lists;
+use state::places::{around, place_of};
+use state::pools::Stack;
 
-// The child that end p leads into gets label 2 and, through its mate, the next child label 1. Both ring edges are allowed: that of q,
-// and that at place i, by which the walk goes on.
-fn relabel_on(
-    ends: &[u16],
-    labels: &mut [u16],
-    label_ends: &mut [u16],
-    best: &mut [u16],
-    queue: &mut [u16],
-    queued: u16,
-    allowed: &mut [bool],
-    tops: &[u16],
-    bases: &[u16],
-    mates: &[u16],
-    kids: &[u16],
-    links: &[u16],
-    counts: &[u16],
-    n: u16,
-    b: Group,
-    m: u16,
-    forward: bool,
-    i: u16,
-    p: End,
-    q: End,
-) -> Walked
-    requires { RingFits n queue.old counts.now kids.now links.now mates.now ends.now × Ring n counts.now b.0 m × (i < m) }
-    ensures { (edges : List EdgeOf) → ends_of edges ≡ ends.now → (s : State) → walked result (λ k e. record { place = around_of forward (length (row_of n counts.now links.now (b.0 - n))) i; p = e; state = walking n labels.new label_ends.new best.new (take k queue.new) allowed.new tops.now bases.now mates.now counts.now kids.now links.now s }) ≡ relabel_on (graph_of n edges) forward (row_of n counts.now links.now (b.0 - n)) i p.0 q.0 (walking n labels.old label_ends.old best.old (take queued queue.old) allowed.old tops.now bases.now mates.now counts.now kids.now links.now s) }
-{
-    if !unlabel(ends, labels, q) {
-        return Walked::Bad;
-    }
-    let back = p.beside();
-    let GotNode::At(v) = node_in(ends, back.number()) else {
-        return Walked::Bad;
-    };
-    let Got::At(len) = label_two(
-        ends, labels, label_ends, best, queue, queued, tops, bases, mates, kids, counts, n, v, p,
-    ) else {
-        return Walked::Bad;
-    };
-    if !allow(allowed, q) {
-        return Walked::Bad;
-    }
-    let GotEnd::At(next) = link_end(links, n, b, m, forward, i) else {
-        return Walked::Bad;
-    };
-    if allow(allowed, next) {
-        Walked::At(len, next)
-    } else {
-        Walked::Bad
-    }
+// A place in the ring, and the end through which its child is reached.
+#[derive(Clone, Copy)]
+pub(crate) struct Hop {
+    pub(crate) place: u16,
+    pub(crate) p: End,
 }
 
-// Two places on from `place`, whose child is reached through end p.
-fn relabel_move(
-    ends: &[u16],
-    labels: &mut [u16],
-    label_ends: &mut [u16],
-    best: &mut [u16],
-    queue: &mut [u16],
-    queued: u16,
-    allowed: &mut [bool],
-    tops: &[u16],
-    bases: &[u16],
-    mates: &[u16],
-    kids: &[u16],
-    links: &[u16],
-    counts: &[u16],
-    n: u16,
-    b: Group,
-    m: u16,
-    forward: bool,
-    place: u16,
-    p: End,
-) -> Walked
-    requires { RingFits n queue.old counts.now kids.now links.now mates.now ends.now × Ring n counts.now b.0 m × (place < m) }
-    ensures { (edges : List EdgeOf) → ends_of edges ≡ ends.now → (s : State) → walked result (λ k e. record { place = around_of forward m (around_of forward m place); p = e; state = walking n labels.new label_ends.new best.new (take k queue.new) allowed.new tops.now bases.now mates.now counts.now kids.now links.now s }) ≡ relabel_move (graph_of n edges) b.0 forward (record { place = place; p = p.0; state = walking n labels.old label_ends.old best.old (take queued queue.old) allowed.old tops.now bases.now mates.now counts.now kids.now links.now s }) }
-{
-    if !unlabel(ends, labels, p) {
-        return Walked::Bad;
-    }
-    let GotEnd::At(q) = link_end(links, n, b, m, forward, place) else {
-        return Walked::Bad;
-    };
-    let i = around(forward, m, place);
-    relabel_on(
-        ends, labels, label_ends, best, queue, queued, allowed, tops, bases, mates, kids, links,
-        counts, n, b, m, forward, i, p, q,
-    )
+// The ring of group b's children, and the direction of the walk: a bool, as the definition has it.
+#[derive(Clone, Copy)]
+pub(crate) struct Round {
+    pub(crate) b: Group,
+    pub(crate) forward: bool,
 }
 
-// From place i to the base child, two places at a time: at most 2n times. The label of the group came through end e.
-pub(crate) fn relabel_walk(
-    ends: &[u16],
-    labels: &mut [u16],
-    label_ends: &mut [u16],
-    best: &mut [u16],
-    queue: &mut [u16],
-    queued: u16,
-    allowed: &mut [bool],
-    tops: &[u16],
-    bases: &[u16],
-    mates: &[u16],
-    kids: &[u16],
-    links: &[u16],
-    counts: &[u16],
-    n: u16,
-    b: Group,
-    m: u16,
-    forward: bool,
-    i: u16,
-    e: End,
-) -> Walked
-    requires { RingFits n queue.old counts.now kids.now links.now mates.now ends.now × Ring n counts.now b.0 m × (i < m) }
-    ensures { (edges : List EdgeOf) → ends_of edges ≡ ends.now → (s : State) → walked result (λ k e. record { place = 0; p = e; state = walking n labels.new label_ends.new best.new (take k queue.new) allowed.new tops.now bases.now mates.now counts.now kids.now links.now s }) ≡ while relabel_goes (relabel_move (graph_of n edges) b.0 forward) (2 * n) (record { place = i; p = e.0; state = walking n labels.old label_ends.old best.old (take queued queue.old) allowed.old tops.now bases.now mates.now counts.now kids.now links.now s }) }
+// The ring end at place j, and the place after j. The walk has read its place in the children, and the row of ends may be shorter:
+// backward there is an end one place past it too, which `around` doesn't take.
+#[tactic(auto, unfolding(steps::specs::Ring::link_end, steps::specs::Ring::around))]
+fn hop_from(forward: bool, ends: &[u16], j: u16) -> Result<Hop, Fault>
+    requires { length ends.now ≤ 65535 }
+    ensures { Links forward ends.now j result }
 {
-    let mut len = queued;
-    let mut left = 2 * n;
-    let mut place = i;
-    let mut p = e;
-    while place != 0 {
+    if forward {
+        let p = End(read(ends, j)?);
+        let place = around(true, ends.len() as u16, j);
+        return Ok(Hop { place, p });
+    }
+    if j == 0 {
+        return Err(Fault);
+    }
+    let p = End(read(ends, j - 1)?);
+    Ok(Hop {
+        place: j - 1,
+        p: p.beside(),
+    })
+}
+
+// The same at the place that a first hop came to.
+fn hop_on(forward: bool, ends: &[u16], first: Result<Hop, Fault>) -> Result<Hop, Fault>
+    requires { length ends.now ≤ 65535 }
+    ensures { LinksOn forward ends.now first result }
+{
+    let k = first?;
+    hop_from(forward, ends, k.place)
+}
+
+// Two places on: the child that hop k leads to gets label 2 and, through its mate, the next child label 1. Both ring edges are allowed.
+#[tactic(auto, unfolding(steps::specs::Expand::relabel_move))]
+fn relabel_move(g: &Graph, lists: &mut Lists, ring: Round, k: Hop) -> Result<Hop, Fault>
+    requires { sized lists.old ≡ size_of g.now }
+    ensures said { (at : Progress) → Relabels (relabel_move_of g.now ring.b.0 ring.forward (relabel_at k.place k.p.0 (state_of lists.old at))) result (state_of lists.new at) }
+    ensures size { sized lists.new ≡ sized lists.old }
+    ensures kids { lists.new.forest.kids ≡ lists.old.forest.kids }
+{
+    let ends = lists.ring_ends(ring.b)?;
+    // Both ends are read before the labels change; that there is none is a fault only where the walk comes to it.
+    let first = hop_from(ring.forward, ends, k.place);
+    let second = hop_on(ring.forward, ends, first);
+    unlabel(g, lists, k.p)?;
+    let q = first?;
+    unlabel(g, lists, q.p)?;
+    let v = g.endpoint(k.p.beside())?;
+    lists.label_two(g, v, k.p)?;
+    lists.put_allowed(q.p.edge(), true)?;
+    let next = second?;
+    lists.put_allowed(next.p.edge(), true)?;
+    Ok(next)
+}
+
+// From the child that was entered to the base child, two places at a time: at most 2n times. Moves are counted by hand, since the test
+// comes once more than they do.
+#[tactic(auto, using(crate::proofs::WalkLaws::relabels))]
+fn relabel_walk(g: &Graph, lists: &mut Lists, ring: Round, from: Hop) -> Result<Hop, Fault>
+    requires { sized lists.old ≡ size_of g.now }
+    ensures said { (at : Progress) → Relabels (to_base g.now ring.b.0 ring.forward from.place from.p.0 (state_of lists.old at)) result (state_of lists.new at) }
+    ensures size { sized lists.new ≡ sized lists.old }
+    ensures kids { lists.new.forest.kids ≡ lists.old.forest.kids }
+{
+    let mut k = from;
+    let mut left = g.numbers();
+    while k.place != 0 {
         if left == 0 {
-            return Walked::Bad;
+            return Err(Fault);
         }
-        left = left - 1;
-        let Walked::At(more, next) = relabel_move(
-            ends, labels, label_ends, best, queue, len, allowed, tops, bases, mates, kids, links,
-            counts, n, b, m, forward, place, p,
-        ) else {
-            return Walked::Bad;
-        };
-        len = more;
-        p = next;
-        let j = around(forward, m, place);
-        place = around(forward, m, j);
+        left -= 1;
+        k = relabel_move(g, lists, ring, k)?;
     }
-    Walked::At(len, p)
+    Ok(k)
 }
 
-// The walk on from the base child, back to the child that was entered: at most 2n moves.
-pub(crate) fn onward(
-    ends: &[u16],
-    labels: &mut [u16],
-    label_ends: &mut [u16],
-    best: &mut [u16],
-    queue: &mut [u16],
-    queued: u16,
-    tops: &[u16],
-    bases: &[u16],
-    mates: &[u16],
-    kids: &[u16],
-    counts: &[u16],
-    n: u16,
-    b: Group,
-    m: u16,
-    forward: bool,
+// From a place on to the child that was entered: at most 2n moves, counted as in `relabel_walk`.
+#[tactic(auto, using(crate::proofs::WalkLaws::onwards))]
+fn onward(
+    g: &Graph,
+    lists: &mut Lists,
+    nodes: &mut Stack,
+    ring: Round,
     entry: Group,
-) -> Got
-    requires { PassFits n queue.old counts.now kids.now mates.now ends.now × Ring n counts.now b.0 m × (0 < m) }
-    ensures { (edges : List EdgeOf) → ends_of edges ≡ ends.now → (s : State) → counted result (λ k. relabelled n labels.new label_ends.new best.new (take k queue.new) tops.now bases.now mates.now counts.now kids.now s) ≡ and_then (while (onward_goes b.0 entry.0) (onward_move (graph_of n edges) b.0 forward) (2 * n) (record { place = around_of forward m 0; state = relabelled n labels.old label_ends.old best.old (take queued queue.old) tops.now bases.now mates.now counts.now kids.now s })) (λ o. ok o.state) }
+    from: u16,
+) -> Result<(), Fault>
+    requires { (sized lists.old ≡ size_of g.now) × (nodes.old.room ≡ 2 * g.now.nodes) }
+    ensures said { (at : Progress) → Agrees (to_entry g.now ring.b.0 ring.forward entry.0 from (state_of lists.old at)) result (state_of lists.new at) }
+    ensures size { sized lists.new ≡ sized lists.old }
+    ensures kids { lists.new.forest.kids ≡ lists.old.forest.kids }
+    ensures room { nodes.new.room ≡ nodes.old.room }
 {
-    let mut len = queued;
-    let mut left = 2 * n;
-    let mut j = around(forward, m, 0);
+    let mut place = from;
+    let mut left = g.numbers();
     loop {
-        let child = group_at(kids, n, b.number() - n, j);
-        if child.number() == entry.number() {
-            return Got::At(len);
+        let kids = lists.children(ring.b)?;
+        let c = read(kids, place)?;
+        if c == entry.0 {
+            return Ok(());
         }
         if left == 0 {
-            return Got::Out;
+            return Err(Fault);
         }
-        left = left - 1;
-        let Got::At(more) = onward_child(
-            ends, labels, label_ends, best, queue, len, tops, bases, mates, kids, counts, n, child,
-        ) else {
-            return Got::Out;
-        };
-        len = more;
-        j = around(forward, m, j);
+        left -= 1;
+        place = around(ring.forward, kids.len() as u16, place);
+        onward_child(g, lists, nodes, Group(c))?;
     }
+}
+
+// The children of group b get their labels: forward round the ring from an odd place, backward from an even one.
+#[tactic(auto, unfolding(steps::specs::Expand::relabel_ring))]
+pub(crate) fn relabel_ring(
+    g: &Graph,
+    lists: &mut Lists,
+    nodes: &mut Stack,
+    b: Group,
+) -> Result<(), Fault>
+    requires { (sized lists.old ≡ size_of g.now) × (nodes.old.room ≡ 2 * g.now.nodes) }
+    ensures said { (at : Progress) → Agrees (relabel_ring_of g.now b.0 (state_of lists.old at)) result (state_of lists.new at) }
+    ensures size { sized lists.new ≡ sized lists.old }
+    ensures kids { lists.new.forest.kids ≡ lists.old.forest.kids }
+    ensures room { nodes.new.room ≡ nodes.old.room }
+{
+    let e = lists.label_end(b)?;
+    present(e.0)?;
+    let v = g.endpoint(e.beside())?;
+    let entry = lists.top(v)?;
+    let kids = lists.children(b)?;
+    let i = place_of(kids, entry)?;
+    let ring = Round {
+        b,
+        forward: i % 2 == 1,
+    };
+    let base = read(kids, 0);
+    let start = around(ring.forward, kids.len() as u16, 0);
+    let k = relabel_walk(g, lists, ring, Hop { place: i, p: e })?;
+    relabel_base(g, lists, Group(base?), k.p)?;
+    onward(g, lists, nodes, ring, entry, start)?;
+    Ok(())
 }

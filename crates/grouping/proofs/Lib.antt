@@ -1,3 +1,7 @@
--- The laws of a new group's paths, ring and nodes.
-pub mod RingLaws
+-- The laws of the paths, the ring, the links and the children of a new group.
+pub mod AddLaws
+pub mod ChildLaws
+pub mod LinkLaws
+pub mod PathLaws
+pub mod Positions
 pub mod TraceLaws

@@ -1,94 +1,51 @@
--- Laws of a path: what an assertion says of its test, and each way through a turn of the walk.
-use Rattle.std.specs.Prelude.{if◌then◌else◌}
-use mathlib.Core.Path.{◌≡◌, refl, sym, ap, ◌∙◌}
-use mathlib.Core.Bool.{Bool, true, false, not}
-use mathlib.Core.Logic.{◌≢◌, ◌⊎◌, inl, inr}
-use mathlib.Core.List.{List, ◌∷◌, [], ◌++◌}
-use Prim.Native.Nat.{ℕ, ◌+◌, ◌-◌, ◌<◌}
-use native.Mathlib.Numerals.{add-one}
-use borrow.Author.Tests.{eq-eqb, ne_eqb, not-true, not-false}
-use lib.Dec.{eqb}
-use lib.ListN.{length, set, take}
-use lib.Seq.{take-suc-set}
-use Rattle.laws.specs.Run.{Run, ok, fault, and_then, must, while, at}
-use Rattle.laws.proofs.Runs.{not_ok, while_stop, while_spent, while_broken, while_pass}
-use Rattle.matching.specs.Graph.{Graph, missing}
-use Rattle.steps.specs.Ends.{present, endpoint}
+-- The walk back along a path, one law for each way through a turn.
+use Rattle.std.proofs.Common.{◌≡◌, ◌≢◌, ◌-◌, ◌+◌, ◌<◌, ◌≤◌, List, [], ◌∷◌, ◌++◌, ℕ, true, false, eqb, length, refl, arith, sym}
+use Rattle.std.proofs.lemmas.Grind.{common_steps}
+use Rattle.laws.specs.Run.{ok, fault, while}
+use Rattle.laws.proofs.Runs.{while_stop, while_spent, while_broken, while_pass}
+use Rattle.matching.specs.Graph.{Graph}
 use Rattle.steps.specs.State.{State}
-use Rattle.steps.specs.Add.{Trace, trace_goes, traceable, trace_move}
-use Rattle.grouping.specs.View.{standing}
+use Rattle.steps.specs.Add.{trace_goes, trace_move}
+use Rattle.grouping.specs.Parts.{standing}
+use Rattle.grouping.specs.Paths.{Pathed, longer}
 
--- ---- tests that are asserted
+not_same : (a b : ℕ) → a ≢ b → eqb a b ≡ false
+not_same a b n = grind (arith, common_steps, n)
 
-passed : (t : Run Bool) → must true ≡ and_then t must → t ≡ ok true
-passed (ok true) e = refl
-passed (ok false) e = not_ok (sym e)
-passed fault e = not_ok (sym e)
+same : (a b : ℕ) → a ≡ b → eqb a b ≡ true
+same a b e = grind (arith, common_steps, e)
 
-stopped : (t : Run Bool) → must false ≡ and_then t must → (t ≡ fault) ⊎ (t ≡ ok false)
-stopped (ok true) e = not_ok e
-stopped (ok false) e = inr refl
-stopped fault e = inl refl
+longer_by_one : (kids : List ℕ) (x : ℕ) → length (kids ++ (x ∷ [])) ≡ length kids + 1
+longer_by_one [] x = refl
+longer_by_one (y ∷ ys) x = let h = longer_by_one ys x in omega (arith, h)
 
-module _ (t : Run Bool) (r : Bool) (e : must r ≡ and_then t must) where
-  pub passes : not r ≡ false → t ≡ ok true
-  passes h = passed t (ap must (sym (not-false r h)) ∙ e)
-
-  pub barred : not r ≡ true → (t ≡ fault) ⊎ (t ≡ ok false)
-  barred h = stopped t (ap must (sym (not-true r h)) ∙ e)
-
--- a number is missing or not
-pub present_or_not : (x : ℕ) → (present x ≡ fault) ⊎ (present x ≡ ok x)
-present_or_not x = go (eqb x missing)
-  where
-    go : (t : Bool) → ((if t then fault else ok x) ≡ fault) ⊎ ((if t then fault else ok x) ≡ ok x)
-    go true = inl refl
-    go false = inr refl
-
--- ---- the walk
-
-pub window_more : (l : List ℕ) (k v : ℕ) → k < length l → take (k + 1) (set l k v) ≡ take k l ++ (v ∷ [])
-window_more l k v h = rw (add-one k) (take-suc-set l k v h)
-
-module _ (G : Graph) (s : State) (stop : ℕ) (m here : ℕ) (kids links : List ℕ) {whole : Run Trace}
-    (w : while (trace_goes stop) (trace_move G s) m (standing here kids links) ≡ whole) where
-  pub trace_stop : here ≡ stop → ok (standing stop kids links) ≡ whole
+module _ (G : Graph) (s : State) (stop here : ℕ) (p : Pathed) where
+  goes : here ≢ stop → trace_goes stop (standing here p.kids p.ends) ≡ ok true
   unfolding trace_goes
-  trace_stop e =
-      ap (λ (x : ℕ). ok (standing x kids links)) (sym e)
-      ∙ sym (while_stop (trace_goes stop) (trace_move G s) m (standing here kids links) (rw (eq-eqb here stop e)))
-      ∙ w
+  goes n = rw (not_same here stop n)
 
-  module _ (d : here ≢ stop) where
-    goes : trace_goes stop (standing here kids links) ≡ ok true
-    unfolding trace_goes
-    goes = rw (ne_eqb here stop d)
+  pub trace_ends : (m : ℕ) → here ≡ stop
+      → while (trace_goes stop) (trace_move G s) m (standing here p.kids p.ends) ≡ ok (standing stop p.kids p.ends)
+  unfolding trace_goes
+  trace_ends m e =
+      rw e (while_stop (trace_goes stop) (trace_move G s) m (standing stop p.kids p.ends) (rw (same stop stop refl)))
 
-    pub trace_spent : m ≡ 0 → fault ≡ whole
-    trace_spent e = sym (while_spent (trace_goes stop) (trace_move G s) m (standing here kids links) e goes) ∙ w
+  pub trace_lost : (m : ℕ) → here ≢ stop → trace_move G s (standing here p.kids p.ends) ≡ fault
+      → while (trace_goes stop) (trace_move G s) m (standing here p.kids p.ends) ≡ fault
+  trace_lost m n e = while_broken (trace_goes stop) (trace_move G s) m (standing here p.kids p.ends) (goes n) e
 
-    pub trace_bad : trace_move G s (standing here kids links) ≡ fault → fault ≡ whole
-    trace_bad e = sym (while_broken (trace_goes stop) (trace_move G s) m (standing here kids links) goes e) ∙ w
+  pub trace_full : here ≢ stop → p.room ≤ length p.kids
+      → while (trace_goes stop) (trace_move G s) (p.room - length p.kids) (standing here p.kids p.ends) ≡ fault
+  trace_full n h =
+      while_spent (trace_goes stop) (trace_move G s) (p.room - length p.kids) (standing here p.kids p.ends) (omega arith) (goes n)
 
-    pub trace_more : (t : Trace) → 0 < m → trace_move G s (standing here kids links) ≡ ok t → while (trace_goes stop) (trace_move G s) (m - 1) t ≡ whole
-    trace_more t h e = sym (while_pass (trace_goes stop) (trace_move G s) m (standing here kids links) t h goes e) ∙ w
+  pub trace_on : (t e : ℕ) (q : Pathed) → here ≢ stop → length p.kids < p.room → q ≡ longer here e p
+      → trace_move G s (standing here p.kids p.ends) ≡ ok (standing t (p.kids ++ (here ∷ [])) (p.ends ++ (e ∷ [])))
+      → while (trace_goes stop) (trace_move G s) (q.room - length q.kids) (standing t q.kids q.ends)
+      ≡ while (trace_goes stop) (trace_move G s) (p.room - length p.kids) (standing here p.kids p.ends)
+  trace_on t e q n h k m =
+      let l : p.room - length (p.kids ++ (here ∷ [])) ≡ p.room - length p.kids - 1 = omega (arith, longer_by_one p.kids here) in
+      rw (k, l) (sym (while_pass (trace_goes stop) (trace_move G s) (p.room - length p.kids) (standing here p.kids p.ends)
+      (standing t (p.kids ++ (here ∷ [])) (p.ends ++ (e ∷ []))) (omega (arith, h)) (goes n) m))
 
--- ---- one move that faults, whether or not the end is missing
-
-module _ (G : Graph) (s : State) (k : Trace) (e : ℕ) (q : at s.labelling.label_ends k.here ≡ ok e) where
-  pub move_barred : (traceable s k.here e ≡ fault) ⊎ (traceable s k.here e ≡ ok false) → fault ≡ trace_move G s k
-  unfolding trace_move
-  move_barred t = go t (present_or_not e)
-    where
-      go : (traceable s k.here e ≡ fault) ⊎ (traceable s k.here e ≡ ok false) → (present e ≡ fault) ⊎ (present e ≡ ok e) → fault ≡ trace_move G s k
-      go t (inl m) = rw (q, m)
-      go (inl t) (inr m) = rw (q, m, t)
-      go (inr t) (inr m) = rw (q, m, t)
-
-  pub move_lost : traceable s k.here e ≡ ok true → endpoint G e ≡ fault → fault ≡ trace_move G s k
-  unfolding trace_move
-  move_lost t v = go (present_or_not e)
-    where
-      go : (present e ≡ fault) ⊎ (present e ≡ ok e) → fault ≡ trace_move G s k
-      go (inl m) = rw (q, m)
-      go (inr m) = rw (q, m, t, v)
+pub ruleset traces = (trace_ends, trace_lost, trace_full, trace_on)

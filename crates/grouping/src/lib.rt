@@ -1,6 +1,12 @@
-// Adding a group: the two paths back to their meeting point, the ring that they make, and what it takes in.
+// A group added: its two paths and the ring that they make, what it takes in, and the best edges that leave it.
 #![tactic(auto)]
 
-pub mod ring;
-pub mod take;
-pub mod trace;
+pub mod add;
+mod best;
+mod consider;
+mod links;
+mod path;
+mod ring;
+pub mod room;
+mod settle;
+mod trace;

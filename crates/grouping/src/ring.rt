@@ -1,70 +1,79 @@
-// The ring of a new group: its base child first, then the first path backward, then the second path. Each child has a ring end.
-ghost use Rattle.std.specs.Prelude.{◌≡◌, [], ◌∷◌, ◌++◌, reverse, map, ◌+◌, ◌*◌, ◌<◌, ◌≤◌, length, take, drop};
+// The ring of a new group: its base's child first, then the first path backward, then the second path.
+ghost use Rattle.std.specs.Prelude.{◌≡◌, ◌*◌, ◌<◌, ◌≤◌, length};
+ghost use Rattle.std.specs.Result.{IfOk};
 ghost use Rattle.laws.specs.Lists.{member as member_of, repeats as repeats_of};
-ghost use Rattle.matching.specs.Graph.{beside};
-ghost use Rattle.numbers.specs.View.{Agrees};
-ghost use Rattle.steps.specs.State.{State};
-ghost use Rattle.steps.specs.Stores.{with_parents};
-ghost use Rattle.steps.specs.Add.{fit_children, adopt as adopt_of};
 ghost use Rattle.laws.specs.Run.{for_each};
+ghost use Rattle.steps.specs.State.{Progress};
+ghost use Rattle.steps.specs.Add.{fit_children as fit_children_of, adopt as adopt_of, ring_up as ring_up_of};
+ghost use Rattle.numbers.specs.Answers.{Agrees};
+ghost use Rattle.state.specs.Parts.{state_of, sized, size_of};
+ghost use Rattle.grouping.specs.Parts.{meeting_of, Meets, ring_of, Rings};
+ghost use Rattle.grouping.specs.Rooms.{RoomFits};
 
-use numbers::{Edge, End, Group, store};
+use crate::path::Path;
+use crate::room::Room;
+use crate::trace::trace;
+use edges::graph::Graph;
+use numbers::faults::{Fault, must};
+use numbers::{Edge, Group, MISSING, Node};
+use state::lists::Lists;
 
-// The first len of a path, backward, go after the first from of the row.
-fn copy_back(row: &mut [u16], from: u16, path: &[u16], len: u16)
-    requires { (from + len ≤ length row.old) × (len ≤ length path.now) }
-    ensures { take (from + len) row.new ≡ take from row.old ++ reverse (take len path.now) }
-{
-    let end = from as usize + len as usize;
-    let mut i = len as usize;
-    while i > 0 {
-        row[end - i] = path[i - 1];
-        i -= 1;
-    }
+// The outermost groups of the base and of an edge's two nodes.
+#[derive(Clone, Copy)]
+pub struct Meeting {
+    pub first: Group,
+    pub v: Group,
+    pub w: Group,
 }
 
-// The first len of a path go after the first from of the row.
-fn copy_on(row: &mut [u16], from: u16, path: &[u16], len: u16)
-    requires { (from + len ≤ length row.old) × (len ≤ length path.now) }
-    ensures { take (from + len) row.new ≡ take from row.old ++ take len path.now }
+#[tactic(auto, unfolding(crate::specs::Parts::meeting_of))]
+pub fn meet(g: &Graph, lists: &Lists, base: Node, e: Edge) -> Result<Meeting, Fault>
+    ensures said { (at : Progress) → Meets (meeting_of g.now base.0 e.0 (state_of lists.now at)) result }
+    ensures few { IfOk result (λ m. e.0 < 16384) }
 {
-    let start = from as usize;
-    let end = len as usize;
-    for k in 0..end {
-        row[start + k] = path[k];
-    }
+    let x = g.edge(e)?;
+    let first = lists.top(base)?;
+    let v = lists.top(x.first)?;
+    let w = lists.top(x.second)?;
+    Ok(Meeting { first, v, w })
 }
 
-// The ends beside the first len of a path go after the first from of the row.
-fn copy_beside(row: &mut [u16], from: u16, path: &[u16], len: u16)
-    requires { (from + len ≤ length row.old) × (len ≤ length path.now) }
-    ensures { take (from + len) row.new ≡ take from row.old ++ map beside (take len path.now) }
+// The ring of the two paths from edge e back to their meeting point, with no more children than nodes.
+#[tactic(auto, unfolding(crate::specs::Parts::ring_of))]
+pub fn ring(g: &Graph, lists: &Lists, room: &mut Room, m: Meeting, e: Edge) -> Result<(), Fault>
+    requires { RoomFits g.now.nodes room.old × (e.0 < 16384) }
+    ensures said { (at : Progress) → Rings (ring_of g.now (state_of lists.now at) m.first.0 m.v.0 m.w.0 e.0) result room.new.ring }
+    ensures few { IfOk result (λ k. length room.new.ring.kids ≤ g.now.nodes) }
+    ensures fits { RoomFits g.now.nodes room.new }
 {
-    let start = from as usize;
-    let end = len as usize;
-    for k in 0..end {
-        row[start + k] = End(path[k]).beside().number();
-    }
+    trace(g, lists, m.first, m.v, &mut room.ring)?;
+    trace(g, lists, m.first, m.w, &mut room.other)?;
+    let n = g.nodes();
+    must(room.ring.len() + room.other.len() < n)?;
+    room.ring.close(m.first, e);
+    room.ring.join(&room.other);
+    Ok(())
 }
 
-// Entry x is in the list from place i on.
-fn member(list: &[u16], i: usize, x: u16) -> bool
-    requires { i ≤ length list.now }
-    ensures { result ≡ member_of x (drop i list.now) }
+#[tactic(auto, unfolding(laws::specs::Lists::member))]
+fn member(list: &[u16], x: u16) -> bool
+    ensures { result ≡ member_of x list.now }
 {
-    for k in i..list.len() {
-        if list[k] == x {
+    for &y in list {
+        if y == x {
             return true;
         }
     }
     false
 }
 
+#[tactic(auto, unfolding(laws::specs::Lists::repeats))]
 fn repeats(list: &[u16]) -> bool
     ensures { result ≡ repeats_of list.now }
 {
+    // The place tells where the rest of the list begins.
     for k in 0..list.len() {
-        if member(list, k + 1, list[k]) {
+        if member(&list[k + 1..], list[k]) {
             return true;
         }
     }
@@ -72,66 +81,58 @@ fn repeats(list: &[u16]) -> bool
 }
 
 // An odd number of children, three or more, none twice.
+#[tactic(auto, unfolding(steps::specs::Add::fit_children))]
 pub fn fit_children(n: u16, kids: &[u16]) -> bool
-    ensures { result ≡ fit_children n kids.now }
+    ensures { result ≡ fit_children_of n kids.now }
 {
     let m = kids.len();
-    if m % 2 != 1 {
-        return false;
-    }
-    if m < 3 {
-        return false;
-    }
-    if m > n as usize {
-        return false;
-    }
-    !repeats(kids)
+    m % 2 == 1 && 3 <= m && m <= n as usize && !repeats(kids)
 }
 
 // The children have the new group as parent.
-pub fn adopt(parents: &mut [u16], kids: &[u16], new: Group) -> bool
-    ensures { (s : State) → Agrees (for_each (adopt_of new.0) kids.now (with_parents parents.old s)) result (with_parents parents.new s) }
+#[tactic(auto, unfolding(steps::specs::Add::adopt))]
+pub fn adopt(lists: &mut Lists, new: Group, c: Group) -> Result<(), Fault>
+    ensures said { (at : Progress) → Agrees (adopt_of new.0 c.0 (state_of lists.old at)) result (state_of lists.new at) }
+    ensures size { sized lists.new ≡ sized lists.old }
 {
-    let x = new.number();
-    for k in 0..kids.len() {
-        if !store(parents, kids[k], x) {
-            return false;
-        }
+    lists.put_parent(c, new)?;
+    Ok(())
+}
+
+pub fn adopt_all(lists: &mut Lists, new: Group, kids: &[u16]) -> Result<(), Fault>
+    ensures said { (at : Progress) → Agrees (for_each (adopt_of new.0) kids.now (state_of lists.old at)) result (state_of lists.new at) }
+    ensures size { sized lists.new ≡ sized lists.old }
+{
+    for &c in kids {
+        adopt(lists, new, Group(c))?;
     }
-    true
+    Ok(())
 }
 
-// The first path's part of a ring: the base child and the path backward; its ends backward, and the first end of the edge.
-pub fn ring_first(
-    row_kids: &mut [u16],
-    row_links: &mut [u16],
-    first: Group,
-    e: Edge,
-    path: &[u16],
-    links: &[u16],
-    len: u16,
-)
-    requires { (len + 1 ≤ length row_kids.old) × (len + 1 ≤ length row_links.old) × (len ≤ length path.now) × (len ≤ length links.now) × (len < 65535) × (e.0 < 32768) }
-    ensures { (take (len + 1) row_kids.new ≡ reverse (take len path.now ++ (first.0 ∷ []))) × (take (len + 1) row_links.new ≡ reverse (take len links.now) ++ (2 * e.0 ∷ [])) }
+// The new group's ring of children and their ends, its parent and its base.
+#[tactic(auto, unfolding(steps::specs::Add::ring_up))]
+pub fn ring_up(
+    g: &Graph,
+    lists: &mut Lists,
+    path: &Path,
+    new: Group,
+    base: Node,
+) -> Result<(), Fault>
+    requires { (sized lists.old ≡ size_of g.now) × (length path.now.kids ≤ g.now.nodes) }
+    ensures said { (at : Progress) → Agrees (ring_up_of g.now new.0 base.0 path.now.kids path.now.ends (state_of lists.old at)) result (state_of lists.new at) }
+    ensures size { sized lists.new ≡ sized lists.old }
+    ensures group { IfOk result (λ k. g.now.nodes ≤ new.0) }
 {
-    row_kids[0] = first.number();
-    copy_back(row_kids, 1, path, len);
-    copy_back(row_links, 0, links, len);
-    row_links[len as usize] = e.first_end().number();
-}
-
-// The second path's part: the path, and the ends beside its ends.
-pub fn ring_second(
-    row_kids: &mut [u16],
-    row_links: &mut [u16],
-    from: u16,
-    path: &[u16],
-    links: &[u16],
-    len: u16,
-)
-    requires { (from + len ≤ length row_kids.old) × (from + len ≤ length row_links.old) × (len ≤ length path.now) × (len ≤ length links.now) }
-    ensures { (take (from + len) row_kids.new ≡ take from row_kids.old ++ take len path.now) × (take (from + len) row_links.new ≡ take from row_links.old ++ map beside (take len links.now)) }
-{
-    copy_on(row_kids, from, path, len);
-    copy_beside(row_links, from, links, len);
+    let n = g.nodes();
+    if new.0 < n {
+        return Err(Fault);
+    }
+    let kids = path.kids();
+    must(fit_children(n, kids))?;
+    lists.put_base(new, base)?;
+    lists.put_parent(new, Group(MISSING))?;
+    adopt_all(lists, new, kids)?;
+    lists.put_children(new, kids)?;
+    lists.put_ring_ends(new, path.ends())?;
+    Ok(())
 }

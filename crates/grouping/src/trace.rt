@@ -1,105 +1,68 @@
-// The path from a group back to the meeting point: the groups passed, and the end through which each got its label.
-ghost use Rattle.std.specs.Prelude.{◌≡◌, List, ℕ, ◌*◌, ◌≤◌, length, take};
-ghost use Rattle.laws.specs.Run.{and_then, must};
-ghost use Rattle.matching.specs.Graph.{Edge as EdgeOf, graph_of};
-ghost use Rattle.numbers.specs.View.{counted};
-ghost use Rattle.numbers.specs.Edges.{ends_of};
-ghost use Rattle.labels.specs.View.{paired};
-ghost use Rattle.steps.specs.State.{State};
-ghost use Rattle.steps.specs.Stores.{with_labels};
+// The walk from a group back to the meeting point of two paths.
+ghost use Rattle.std.specs.Prelude.{◌≡◌, List, ℕ, ◌*◌};
+ghost use Rattle.steps.specs.State.{Progress};
 ghost use Rattle.steps.specs.Add.{traceable as traceable_of, trace_move, trace as trace_of};
-ghost use Rattle.candidates.specs.Links.{After};
-ghost use Rattle.grouping.specs.View.{traced, standing, back_of};
+ghost use Rattle.numbers.specs.Answers.{Answers, Agrees};
+ghost use Rattle.state.specs.Parts.{state_of};
+ghost use Rattle.grouping.specs.Parts.{standing, Steps};
 
-use labels::marks::base_mate;
-use numbers::{End, Got, GotEnd, GotGroup, GotNode, Group, end_in, get, group_in, node_in};
-
-// Group b has label 2, or label 1 that came through its base's mate.
-fn traceable(labels: &[u16], bases: &[u16], mates: &[u16], b: Group, e: End) -> bool
-    requires { length mates.now ≤ 65535 }
-    ensures { (s : State) → must result ≡ and_then (traceable_of (with_labels labels.now (paired bases.now mates.now s)) b.0 e.0) must }
-{
-    let Got::At(l) = get(labels, b.number()) else {
-        return false;
-    };
-    if l == 2 {
-        return true;
-    }
-    if l != 1 {
-        return false;
-    }
-    let GotEnd::At(m) = base_mate(bases, mates, b) else {
-        return false;
-    };
-    e.number() == m.number()
-}
+use crate::path::Path;
+use edges::graph::Graph;
+use numbers::faults::{Fault, must, present};
+use numbers::{End, Group};
+use state::lists::Lists;
 
 // The end through which a group got its label, and the group across.
 #[derive(Clone, Copy)]
-enum Back {
-    To(End, Group),
-    Out,
+pub struct Back {
+    pub end: End,
+    pub to: Group,
 }
 
-fn back_from(
-    ends: &[u16],
-    labels: &[u16],
-    label_ends: &[u16],
-    tops: &[u16],
-    bases: &[u16],
-    mates: &[u16],
-    b: Group,
-) -> Back
-    requires { (length mates.now ≤ 65535) × (length ends.now ≤ 65535) }
-    ensures { (n : ℕ) (edges : List EdgeOf) → ends_of edges ≡ ends.now → (s : State) (kids links : List ℕ) → back_of result (standing b.0 kids links) ≡ trace_move (graph_of n edges) (traced labels.now label_ends.now tops.now bases.now mates.now s) (standing b.0 kids links) }
+// Group b has label 2, or label 1 that came through its base's mate.
+#[tactic(auto, unfolding(steps::specs::Add::traceable))]
+pub fn traceable(lists: &Lists, b: Group, e: End) -> Result<bool, Fault>
+    ensures { (at : Progress) → Answers (traceable_of (state_of lists.now at) b.0 e.0) result }
 {
-    let GotEnd::At(e) = end_in(label_ends, b.number()) else {
-        return Back::Out;
-    };
-    if !traceable(labels, bases, mates, b, e) {
-        return Back::Out;
+    let l = lists.label(b.0)?;
+    if l == 2 {
+        return Ok(true);
     }
-    let GotNode::At(v) = node_in(ends, e.number()) else {
-        return Back::Out;
-    };
-    let GotGroup::At(t) = group_in(tops, v.number()) else {
-        return Back::Out;
-    };
-    Back::To(e, t)
+    if l == 1 {
+        let m = lists.base_mate(b)?;
+        return Ok(e.0 == m.0);
+    }
+    Ok(false)
 }
 
-// From group b back to the group stop: the path goes to kids and links, and the answer is how long it is.
-pub fn trace(
-    ends: &[u16],
-    labels: &[u16],
-    label_ends: &[u16],
-    tops: &[u16],
-    bases: &[u16],
-    mates: &[u16],
-    n: u16,
-    stop: Group,
-    b: Group,
-    kids: &mut [u16],
-    links: &mut [u16],
-) -> Got
-    requires { (length mates.now ≤ 65535) × (length ends.now ≤ 65535) × (n ≤ 512) × (length kids.old ≡ 2 * n) × (length links.old ≡ 2 * n) }
-    ensures { After result (λ k. k ≤ 2 * n) × ((edges : List EdgeOf) → ends_of edges ≡ ends.now → (s : State) → counted result (λ k. standing stop.0 (take k kids.new) (take k links.new)) ≡ trace_of (graph_of n edges) (traced labels.now label_ends.now tops.now bases.now mates.now s) stop.0 b.0) }
+// One group back from b.
+#[tactic(auto, unfolding(steps::specs::Add::trace_move))]
+pub fn step_back(g: &Graph, lists: &Lists, b: Group) -> Result<Back, Fault>
+    ensures { (at : Progress) (kids : List ℕ) (ends : List ℕ) → Steps (trace_move g.now (state_of lists.now at) (standing b.0 kids ends)) b.0 kids ends result }
 {
-    let last = stop.number();
-    let mut here = b.number();
-    let mut len: u16 = 0;
-    while here != last {
-        if len >= 2 * n {
-            return Got::Out;
-        }
-        let Back::To(p, g) = back_from(ends, labels, label_ends, tops, bases, mates, Group(here))
-        else {
-            return Got::Out;
-        };
-        kids[len as usize] = here;
-        links[len as usize] = p.number();
-        len += 1;
-        here = g.number();
+    let end = lists.label_end(b)?;
+    present(end.0)?;
+    let fine = traceable(lists, b, end)?;
+    must(fine)?;
+    let v = g.endpoint(end)?;
+    let to = lists.top(v)?;
+    Ok(Back { end, to })
+}
+
+// From group b back to the group stop; the groups passed and their ends go to the path.
+#[tactic(auto, using(crate::proofs::TraceLaws::traces), unfolding(steps::specs::Add::trace))]
+pub fn trace(g: &Graph, lists: &Lists, stop: Group, b: Group, path: &mut Path) -> Result<(), Fault>
+    requires { path.old.room ≡ 2 * g.now.nodes }
+    ensures said { (at : Progress) → Agrees (trace_of g.now (state_of lists.now at) stop.0 b.0) result (standing stop.0 path.new.kids path.new.ends) }
+    ensures room { path.new.room ≡ path.old.room }
+{
+    path.clear();
+    // The path's room is the limit of moves, so none is counted.
+    let mut here = b;
+    while here.0 != stop.0 {
+        let back = step_back(g, lists, here)?;
+        path.push(here, back.end)?;
+        here = back.to;
     }
-    Got::At(len)
+    Ok(())
 }

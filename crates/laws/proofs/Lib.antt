@@ -10,3 +10,4 @@ pub mod Kept
 pub mod Times
 pub mod Keeping
 pub mod Flips
+pub mod Ranges

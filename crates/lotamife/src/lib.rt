@@ -8,9 +8,6 @@ ghost use Rattle.steps.specs.Check.{judgement_number, judgement_place};
 ghost use Rattle.plan.specs.View.{plan_lists};
 ghost use Rattle.lotamife.specs.View.{Planned};
 
-use certificate::answers::{verdict_number, verdict_place};
-use plan::answers::{answer_number, answer_place, answer_steps};
-
 // The plan call. The result is the answer's number, 0 to 8; its place and the steps completed are always written.
 pub fn lotamife_plan(
     n: usize,
@@ -38,9 +35,9 @@ pub fn lotamife_plan(
         duals,
         parents,
     );
-    *place = answer_place(answer) as u32;
-    *steps = answer_steps(answer);
-    answer_number(answer) as u32
+    *place = answer.place() as u32;
+    *steps = answer.steps();
+    answer.number() as u32
 }
 
 // The check call. The result is 0 for YES, 1 to 6 for a refusal, 11 to 17 for NO; its place is always written.
@@ -67,6 +64,6 @@ pub fn lotamife_check(
         duals,
         parents,
     );
-    *place = verdict_place(verdict) as u32;
-    verdict_number(verdict) as u32
+    *place = verdict.place() as u32;
+    verdict.number() as u32
 }

@@ -1,8 +1,7 @@
 // Plans the site file that standard input holds, and prints the answer. A read or a write that fails ends the program with its error.
 #![tactic(auto)]
 
-ghost use Rattle.std.specs.Prelude.{◌-◌, ◌≤◌, length};
-ghost use Rattle.pair.specs.View.{Within};
+ghost use Rattle.std.specs.Prelude.{◌≤◌, length, IfOk};
 
 use sites::plan_site;
 use std::io;
@@ -11,36 +10,19 @@ use std::io::{Read, Write};
 // One byte more than a site file may have, so that a longer one is seen to be LONG.
 const ROOM: usize = 65537;
 
-#[derive(Drop)]
-pub enum Input {
-    Bytes(usize),
-    Failed(io::Error),
-}
-
-// One read into a buffer, from a place on: how many bytes came; none at the input's end.
-fn read_part<R: Read>(from: &mut R, file: &mut [u8], at: usize) -> Input
-    requires { at ≤ length file.old }
-    ensures { Within (length file.old - at) result }
-{
-    match from.read(&mut file[at..]) {
-        Ok(more) => Input::Bytes(more),
-        Err(error) => Input::Failed(error),
-    }
-}
-
 // Reads to the input's end or until the buffer is full: how many bytes came.
-fn read_input<R: Read>(from: &mut R, file: &mut [u8]) -> Input
-    ensures { Within (length file.new) result }
+fn read_input<R: Read>(from: &mut R, file: &mut [u8]) -> io::Result<usize>
+    ensures { IfOk result (λ size. size ≤ length file.new) }
 {
     let mut size = 0;
     while size < file.len() {
-        match read_part(from, file, size) {
-            Input::Bytes(0) => return Input::Bytes(size),
-            Input::Bytes(more) => size += more,
-            failed => return failed,
+        let more = from.read(&mut file[size..])?;
+        if more == 0 {
+            break;
         }
+        size += more;
     }
-    Input::Bytes(size)
+    Ok(size)
 }
 
 // Prints the plan of a file. An answer of 32 pairs has at most 608 bytes, so the buffer cuts none.
@@ -52,8 +34,6 @@ fn answer<W: Write>(file: &[u8], out: &mut W) -> io::Result<()> {
 
 fn main(rt: HostRuntime) -> io::Result<()> {
     let mut file = [0u8; ROOM];
-    match read_input(&mut rt.reader(), &mut file) {
-        Input::Bytes(size) => answer(&file[..size], &mut io::writer(&rt)),
-        Input::Failed(error) => Err(error),
-    }
+    let size = read_input(&mut rt.reader(), &mut file)?;
+    answer(&file[..size], &mut io::writer(&rt))
 }

@@ -37,7 +37,8 @@ module _ (n : ℕ) (xs ys : List ℕ) (zs : List ℤ) (flag : Bool) (budget : �
     is_fine = go (same_length xs ys zs) (intake n (edges_from xs ys zs) r) h
       where
         go : (t : Bool) (i : Intake) → fine ≡ (if t then i else refused (unequal n (length xs)))
-            → plan_fine (lent n xs ys zs) flag budget r (edges_from xs ys zs) ≡ (if t then plan_after (lent n xs ys zs) flag budget r i else cleared r (REFUSED (unequal n (length xs))) 0)
+            → plan_fine (lent n xs ys zs) flag budget r (edges_from xs ys zs)
+            ≡ (if t then plan_after (lent n xs ys zs) flag budget r i else cleared r (REFUSED (unequal n (length xs))) 0)
         go true fine h = refl
         go true (refused s) h = cc
         go false i h = cc
@@ -53,11 +54,14 @@ module _ (n : ℕ) (xs ys : List ℕ) (zs : List ℤ) (flag : Bool) (budget : �
         go [] z = refl
         go (e ∷ es) z = let no_way : ⊥ = omega arith in absurd no_way
 
-    some_edges : 0 < length xs → plan_end (lent n xs ys zs) flag r (run (lent n xs ys zs) flag budget 0 (start (lent n xs ys zs))) ≡ plan_lists r n xs ys zs flag budget
+    some_edges : 0 < length xs
+        → plan_end (lent n xs ys zs) flag r (run (lent n xs ys zs) flag budget 0 (start (lent n xs ys zs))) ≡ plan_lists r n xs ys zs flag budget
     unfolding plan_fine
     some_edges l = go (edges_from xs ys zs) (omega (arith, count)) ∙ is_fine
       where
-        go : (es : List Edge) → 0 < length es → plan_end (lent n xs ys zs) flag r (run (lent n xs ys zs) flag budget 0 (start (lent n xs ys zs))) ≡ plan_fine (lent n xs ys zs) flag budget r es
+        go : (es : List Edge) → 0 < length es
+            → plan_end (lent n xs ys zs) flag r (run (lent n xs ys zs) flag budget 0 (start (lent n xs ys zs)))
+            ≡ plan_fine (lent n xs ys zs) flag budget r es
         go [] l = let no_way : ⊥ = omega arith in absurd no_way
         go (e ∷ es) l = refl
 
@@ -89,7 +93,8 @@ module _ (M D P : ℕ) {m p : List ℕ} {d : List ℤ} (a : m ≡ replicate M mi
 
     module _ (flag : Bool) (budget : ℕ) where
       pub refused_plan : (s : Refusal) → refused s ≡ intake_lists n xs ys zs (room (length m) (length d) (length p))
-          → ◌≡◌ {A = Plan} (record { answer = REFUSED s; steps = 0; mates = m; duals = d; parents = p }) (plan_lists (room M D P) n xs ys zs flag budget)
+          → ◌≡◌ {A = Plan} (record { answer = REFUSED s; steps = 0; mates = m; duals = d; parents = p })
+          (plan_lists (room M D P) n xs ys zs flag budget)
       refused_plan s h = all_cleared (REFUSED s) ∙ is_refused n xs ys zs flag budget _ s (h ∙ ap (intake_lists n xs ys zs) same_room)
 
       pub empty_plan : fine ≡ intake_lists n xs ys zs (room (length m) (length d) (length p)) → length xs ≡ 0
@@ -97,7 +102,8 @@ module _ (M D P : ℕ) {m p : List ℕ} {d : List ℤ} (a : m ≡ replicate M mi
       empty_plan h z = all_cleared DONE ∙ no_edges n xs ys zs flag budget _ (h ∙ ap (intake_lists n xs ys zs) same_room) z
 
       pub edges_plan : fine ≡ intake_lists n xs ys zs (room (length m) (length d) (length p)) → 0 < length xs
-          → plan_end (lent n xs ys zs) flag (room (length m) (length d) (length p)) (run (lent n xs ys zs) flag budget 0 (start (lent n xs ys zs))) ≡ plan_lists (room M D P) n xs ys zs flag budget
+          → plan_end (lent n xs ys zs) flag (room (length m) (length d) (length p)) (run (lent n xs ys zs) flag budget 0 (start (lent n xs ys zs)))
+          ≡ plan_lists (room M D P) n xs ys zs flag budget
       edges_plan h l =
           ap (λ (r : Room). plan_end (lent n xs ys zs) flag r (run (lent n xs ys zs) flag budget 0 (start (lent n xs ys zs)))) same_room
           ∙ some_edges n xs ys zs flag budget _ (h ∙ ap (intake_lists n xs ys zs) same_room) l

@@ -1,4 +1,4 @@
--- The ends and weights of the edges that three lists describe, and the list of ends as it is laid, edge after edge.
+-- The ends of the edges that three lists describe, as they are laid edge after edge.
 use mathlib.Core.Path.{◌≡◌, refl, sym, ap, ◌∙◌}
 use mathlib.Core.List.{List, [], ◌∷◌, ◌++◌}
 use Prim.Native.Nat.{ℕ, zero, suc, ◌+◌, ◌*◌, ◌<◌, ◌≤◌}
@@ -6,8 +6,9 @@ use native.Mathlib.Omega.{arith}
 use lib.IntN.{ℤ}
 use lib.ListN.{length, get_or, set, take, drop}
 use Rattle.laws.proofs.Windows.{write_more, write_all}
-use Rattle.matching.specs.Graph.{edges_from}
-use Rattle.numbers.specs.Edges.{ends_of, weights_of}
+use Rattle.matching.specs.Graph.{Graph, graph_of, edge_count, Edge, edge, edges_from}
+use Rattle.numbers.specs.Edges.{ends_of}
+use Rattle.edges.specs.Views.{edges_over}
 use Rattle.numbers.proofs.EdgeLaws.{first_next, second_next, length_ends_of}
 use Rattle.certificate.proofs.IntakeLaws.{edges_length}
 
@@ -29,14 +30,14 @@ second_end (x ∷ xs) (y ∷ ys) [] e p q h = let no_way : ⊥ = omega arith in 
 second_end (x ∷ xs) (y ∷ ys) (z ∷ zs) zero p q h = refl
 second_end (x ∷ xs) (y ∷ ys) (z ∷ zs) (suc e) p q h = rw (second_next e) (second_end xs ys zs e (omega arith) (omega arith) (omega arith))
 
--- the weights of the edges are the third list
-pub weights_lent : (xs ys : List ℕ) (zs : List ℤ) → length ys ≡ length xs → length zs ≡ length xs → weights_of (edges_from xs ys zs) ≡ zs
-unfolding weights_of
-weights_lent [] ys [] p q = refl
-weights_lent [] ys (z ∷ zs) p q = let no_way : ⊥ = omega arith in absurd no_way
-weights_lent (x ∷ xs) [] zs p q = let no_way : ⊥ = omega arith in absurd no_way
-weights_lent (x ∷ xs) (y ∷ ys) [] p q = let no_way : ⊥ = omega arith in absurd no_way
-weights_lent (x ∷ xs) (y ∷ ys) (z ∷ zs) p q = ap {B = List ℤ} (λ r. z ∷ r) (weights_lent xs ys zs (omega arith) (omega arith))
+-- the edges are those of their ends and the third list
+over_lent : (xs ys : List ℕ) (zs : List ℤ) → length ys ≡ length xs → length zs ≡ length xs
+    → edges_over (ends_of (edges_from xs ys zs)) zs ≡ edges_from xs ys zs
+unfolding ends_of edges_over
+over_lent [] ys zs p q = refl
+over_lent (x ∷ xs) [] zs p q = let no_way : ⊥ = omega arith in absurd no_way
+over_lent (x ∷ xs) (y ∷ ys) [] p q = let no_way : ⊥ = omega arith in absurd no_way
+over_lent (x ∷ xs) (y ∷ ys) (z ∷ zs) p q = ap {B = List Edge} (λ r. edge x y z ∷ r) (over_lent xs ys zs (omega arith) (omega arith))
 
 -- a list d of which the ends of e edges are laid
 abbrev pub laid : (d xs ys : List ℕ) → (zs : List ℤ) → (e : ℕ) → List ℕ
@@ -60,5 +61,10 @@ module _ (d xs ys : List ℕ) (p : length ys ≡ length xs) (l : length d ≡ 2 
           write_more d (ends_of (edges_from xs ys zs)) (2 * e + 1) 0 (omega arith) (omega (arith, all_ends)),
         )
 
-    pub laid_all : (r : List ℕ) (e : ℕ) → length xs ≤ e → r ≡ laid d xs ys zs e → ends_of (edges_from xs ys zs) ≡ r
-    laid_all r e h w = sym (w ∙ write_all d (ends_of (edges_from xs ys zs)) (2 * e) (omega arith) (omega (arith, all_ends)))
+    pub laid_all : (r : List ℕ) (e : ℕ) → length xs ≤ e → r ≡ laid d xs ys zs e → edges_over r zs ≡ edges_from xs ys zs
+    laid_all r e h w =
+        rw (w, write_all d (ends_of (edges_from xs ys zs)) (2 * e) (omega arith) (omega (arith, all_ends))) (over_lent xs ys zs p q)
+
+pub count_made : (n : ℕ) (xs ys ends : List ℕ) (zs : List ℤ) (G : Graph) → G ≡ graph_of n (edges_over ends zs)
+    → edges_over ends zs ≡ edges_from xs ys zs → length ys ≡ length xs → length zs ≡ length xs → edge_count G ≡ length xs
+count_made n xs ys ends zs G e o p q = rw (e, o) (edges_length xs ys zs p q)

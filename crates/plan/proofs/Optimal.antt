@@ -53,12 +53,15 @@ module _ (room : Room) (n : ℕ) (edges : List Edge) (flag : Bool) (budget : ℕ
 -- ---- the call
 
 module _ (room : Room) (n : ℕ) (first second : List ℕ) (weight : List ℤ) (flag : Bool) (budget : ℕ) where
-  is_plan : (plan_lists room n first second weight flag budget).answer ≡ DONE → plan_lists room n first second weight flag budget ≡ plan room n (edges_from first second weight) flag budget
+  is_plan : (plan_lists room n first second weight flag budget).answer ≡ DONE
+      → plan_lists room n first second weight flag budget ≡ plan room n (edges_from first second weight) flag budget
   unfolding plan_lists cleared
   is_plan h = go (same_length first second weight) h
     where
-      go : (t : Bool) → (if t then plan room n (edges_from first second weight) flag budget else cleared room (REFUSED (unequal n (length first))) 0).answer ≡ DONE
-          → (if t then plan room n (edges_from first second weight) flag budget else cleared room (REFUSED (unequal n (length first))) 0) ≡ plan room n (edges_from first second weight) flag budget
+      go : (t : Bool)
+          → (if t then plan room n (edges_from first second weight) flag budget else cleared room (REFUSED (unequal n (length first))) 0).answer ≡ DONE
+          → (if t then plan room n (edges_from first second weight) flag budget else cleared room (REFUSED (unequal n (length first))) 0)
+          ≡ plan room n (edges_from first second weight) flag budget
       go true h = refl
       go false h = let z : ◌≡◌ {A = ℕ} 0 1 = cc in absurd (nought z)
 
@@ -80,5 +83,6 @@ module _ (room : Room) (n : ℕ) (first second : List ℕ) (weight : List ℤ) (
 
     pub first_mates_optimal : Optimal (lent n first second weight) flag (pairs (lent n first second weight) (take n mates))
     first_mates_optimal =
-        subst (λ (M : List ℕ). Optimal (lent n first second weight) flag M) (sym (first_pairs (lent n first second weight) mates (well_formed room n (edges_from first second weight) flag budget plan_done)))
+        subst (λ (M : List ℕ). Optimal (lent n first second weight) flag M)
+        (sym (first_pairs (lent n first second weight) mates (well_formed room n (edges_from first second weight) flag budget plan_done)))
         plan_done_optimal

@@ -2,14 +2,15 @@
 use mathlib.Core.Path.{◌≡◌, refl, sym, ap, ◌∙◌}
 use mathlib.Core.Bool.{Bool}
 use Prim.Native.Nat.{ℕ}
-use native.Mathlib.Omega.{arith}
+use Rattle.std.specs.Prelude.{Ok, Err}
 use Rattle.matching.specs.Graph.{Graph}
 use Rattle.matching.specs.Certificate.{Certificate, Condition}
 use Rattle.matching.specs.Tests.{Verdict, YES, NO, verdict}
-use Rattle.steps.specs.Refusals.{Refusal, Room}
-use Rattle.steps.specs.Check.{JUDGED, DECLINED}
+use Rattle.steps.specs.Refusals.{Room}
 use Rattle.steps.specs.Plan.{STEPS, FAULT, Ending, finished, spent, broken, Plan, cleared, filled, certified as certified_by, plan_end}
-use Rattle.whole.specs.Ran.{Outcome, certified, stopped, faulted, outcome_of}
+use Rattle.search.specs.declared.running.Stopped.{Stopped}
+use Rattle.search.specs.declared.running.Stopped.TheVariants.{Spent, Broken}
+use Rattle.plan.specs.Runs.{Outcome, certified, stopped, faulted, outcome_of, Certifies, settled}
 
 module _ (G : Graph) (flag : Bool) (room : Room) where
   plan_by : Outcome → Plan
@@ -17,45 +18,35 @@ module _ (G : Graph) (flag : Bool) (room : Room) where
   plan_by (stopped k) = cleared room STEPS k
   plan_by (faulted k) = cleared room FAULT k
 
-  by_outcome : (e : Ending) → plan_end G flag room e ≡ plan_by (outcome_of e)
-  unfolding plan_end plan_by
-  by_outcome (finished k s) = refl
-  by_outcome (spent k) = refl
-  by_outcome (broken k) = refl
+  module _ (e : Ending) where
+    by_outcome : (o : Outcome) → outcome_of e ≡ o → plan_by o ≡ plan_end G flag room e
+    unfolding plan_end plan_by
+    by_outcome o h = rw (← h) (go e)
+      where
+        go : (e : Ending) → plan_by (outcome_of e) ≡ plan_end G flag room e
+        go (finished k s) = refl
+        go (spent k) = refl
+        go (broken k) = refl
 
-  module _ (e : Ending) {k : ℕ} where
-    pub when_stopped : stopped k ≡ outcome_of e → cleared room STEPS k ≡ plan_end G flag room e
+    -- a run that has stopped
+    pub stops : (n : ℕ) (r : Stopped) (C D : Certificate) → Certifies (outcome_of e) (Err r) C → settled n room (Err r) D ≡ plan_end G flag room e
     unfolding plan_by
-    when_stopped h = ap plan_by h ∙ sym (by_outcome e)
+    stops n (Spent k) C D h = by_outcome (stopped k) h
+    stops n (Broken k) C D h = by_outcome (faulted k) h
 
-    pub when_faulted : faulted k ≡ outcome_of e → cleared room FAULT k ≡ plan_end G flag room e
-    unfolding plan_by
-    when_faulted h = ap plan_by h ∙ sym (by_outcome e)
-
-    module _ {C : Certificate} (h : certified k C ≡ outcome_of e) where
-      judged : certified_by G.nodes room k C (verdict G flag C) ≡ plan_end G flag room e
-      unfolding plan_by
-      judged = ap plan_by h ∙ sym (by_outcome e)
-
-      pub when_passed : JUDGED YES ≡ JUDGED (verdict G flag C) → filled G.nodes room k C ≡ plan_end G flag room e
-      unfolding certified_by
-      when_passed j = go (verdict G flag C) j ∙ judged
+    module _ (k : ℕ) (C : Certificate) (h : outcome_of e ≡ certified k C) where
+      pub passes : YES ≡ verdict G flag C → settled G.nodes room (Ok k) C ≡ plan_end G flag room e
+      unfolding certified_by plan_by
+      passes j = go (verdict G flag C) j ∙ by_outcome (certified k C) h
         where
-          go : (v : Verdict) → JUDGED YES ≡ JUDGED v → filled G.nodes room k C ≡ certified_by G.nodes room k C v
+          go : (v : Verdict) → YES ≡ v → filled G.nodes room k C ≡ certified_by G.nodes room k C v
           go YES j = refl
           go (NO c) j = cc
 
-      pub when_failed : {c : Condition} → JUDGED (NO c) ≡ JUDGED (verdict G flag C) → cleared room FAULT k ≡ plan_end G flag room e
-      unfolding certified_by
-      when_failed {c} j = go (verdict G flag C) j ∙ judged
+      pub fails : (c : Condition) → NO c ≡ verdict G flag C → settled G.nodes room (Err (Broken k)) C ≡ plan_end G flag room e
+      unfolding certified_by plan_by
+      fails c j = go (verdict G flag C) j ∙ by_outcome (certified k C) h
         where
-          go : (v : Verdict) → JUDGED (NO c) ≡ JUDGED v → cleared room FAULT k ≡ certified_by G.nodes room k C v
+          go : (v : Verdict) → NO c ≡ v → cleared room FAULT k ≡ certified_by G.nodes room k C v
           go YES j = cc
           go (NO d) j = refl
-
--- a verdict on a certificate is no refusal
-pub not_declined : {A : Type 0} {r : Refusal} {v : Verdict} → DECLINED r ≡ JUDGED v → A
-not_declined j = let z : ◌≡◌ {A = ℕ} 0 1 = cc in absurd (nought z)
-  where
-    nought : ◌≡◌ {A = ℕ} 0 1 → ⊥
-    nought z = omega arith

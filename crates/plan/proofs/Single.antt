@@ -43,7 +43,8 @@ answer_back (answers.Steps k) = refl
 answer_back (answers.Fault k) = refl
 answer_back (answers.Refused c) = ap answers.Refused (cause_back c)
 
-pub single : (a b : Answer) {m m' : List ℕ} {d d' : List ℤ} {p p' : List ℕ} → plan_of a m d p ≡ plan_of b m' d' p' → (a ≡ b) × (m ≡ m') × (d ≡ d') × (p ≡ p')
+pub single : (a b : Answer) {m m' : List ℕ} {d d' : List ℤ} {p p' : List ℕ}
+    → plan_of a m d p ≡ plan_of b m' d' p' → (a ≡ b) × (m ≡ m') × (d ≡ d') × (p ≡ p')
 single a b e = (
   sym (answer_back a) ∙ ap (λ (x : Plan). answer_from x.answer x.steps) e ∙ answer_back b,
   ap (λ (x : Plan). x.mates) e,

@@ -2,9 +2,8 @@
 -- are `number_of`, `place_of` and `steps_of` of it.
 use Rattle.std.specs.Prelude.{if◌then◌else◌, Bool, List, ℕ, ℤ, length}
 use Rattle.matching.specs.Graph.{edges_from}
-use Rattle.matching.specs.Certificate.{Certificate}
 use Rattle.steps.specs.Refusals.{Room}
-use Rattle.steps.specs.Plan.{Answer, DONE, STEPS, FAULT, REFUSED, answer_number, answer_place, Plan, cleared, filled, plan}
+use Rattle.steps.specs.Plan.{Answer, DONE, STEPS, FAULT, REFUSED, answer_number, answer_place, Plan, cleared, plan}
 use Rattle.certificate.specs.Lists.{same_length, unequal}
 use Rattle.certificate.specs.View.{cause_of}
 use Rattle.plan.specs.declared.answers.Answer as answer
@@ -31,13 +30,6 @@ steps_of (answers.Refused c) = 0
 -- an answer with the lent lists at the end, over their whole length
 abbrev pub plan_of : answer.Answer → (mates : List ℕ) → (duals : List ℤ) → (parents : List ℕ) → Plan
 plan_of a mates duals parents = record { answer = answer_of a; steps = steps_of a; mates = mates; duals = duals; parents = parents }
-
--- an answer with the certificate found, which is read only where it is DONE
-abbrev pub settled : (n : ℕ) → Room → answer.Answer → Certificate → Plan
-settled n room (answers.Done k) C = filled n room k C
-settled n room (answers.Steps k) C = cleared room STEPS k
-settled n room (answers.Fault k) C = cleared room FAULT k
-settled n room (answers.Refused c) C = cleared room (REFUSED (cause_of c)) 0
 
 -- lists of one length are the edge list whose entry e is made of the three entries e; others are no edge list, and are refused
 unfoldable pub plan_lists : Room → (n : ℕ) → (first second : List ℕ) → (weight : List ℤ) → (flag : Bool) → (budget : ℕ) → Plan

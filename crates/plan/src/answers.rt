@@ -1,11 +1,13 @@
 // What the plan call answers. A definition in specs/ gives document 01's number, place and steps of each case.
 ghost use Rattle.std.specs.Prelude.{◌≡◌};
+ghost use Rattle.plan.specs.Runs.{stopped_answer};
 ghost use Rattle.plan.specs.View.{number_of, place_of, steps_of};
 
-use certificate::answers::{Cause, cause_number, cause_place};
+use certificate::answers::Cause;
+use search::running::Stopped;
 
 // Done, Steps and Fault carry the steps completed.
-#[derive(Clone, Copy)]
+#[derive(Clone, Copy, Debug, PartialEq, Eq)]
 pub enum Answer {
     Done(u32),
     Steps(u32),
@@ -13,38 +15,47 @@ pub enum Answer {
     Refused(Cause),
 }
 
-// Document 01's number of an answer.
-pub fn answer_number(x: Answer) -> u16
-    ensures { result ≡ number_of x }
-{
-    match x {
-        Answer::Done(_) => 0,
-        Answer::Refused(c) => cause_number(c),
-        Answer::Steps(_) => 7,
-        Answer::Fault(_) => 8,
+// Number, place and steps by a match: the cases hold values, so no cast gives them.
+impl Answer {
+    // Of a run that has stopped.
+    pub(crate) fn of_stopped(stopped: Stopped) -> Answer
+        ensures { result ≡ stopped_answer stopped }
+    {
+        match stopped {
+            Stopped::Spent(steps) => Answer::Steps(steps),
+            Stopped::Broken(steps) => Answer::Fault(steps),
+        }
     }
-}
 
-// Its place: the edge of a refusal, or 0.
-pub fn answer_place(x: Answer) -> u16
-    ensures { result ≡ place_of x }
-{
-    match x {
-        Answer::Done(_) => 0,
-        Answer::Refused(c) => cause_place(c),
-        Answer::Steps(_) => 0,
-        Answer::Fault(_) => 0,
+    // Document 01's number of an answer.
+    pub fn number(self) -> u16
+        ensures { result ≡ number_of self }
+    {
+        match self {
+            Answer::Done(_) => 0,
+            Answer::Refused(cause) => cause.number(),
+            Answer::Steps(_) => 7,
+            Answer::Fault(_) => 8,
+        }
     }
-}
 
-// The steps completed: none where the call is refused.
-pub fn answer_steps(x: Answer) -> u32
-    ensures { result ≡ steps_of x }
-{
-    match x {
-        Answer::Done(k) => k,
-        Answer::Refused(_) => 0,
-        Answer::Steps(k) => k,
-        Answer::Fault(k) => k,
+    // Its place: the edge of a refusal, or 0.
+    pub fn place(self) -> u16
+        ensures { result ≡ place_of self }
+    {
+        match self {
+            Answer::Refused(cause) => cause.place(),
+            Answer::Done(_) | Answer::Steps(_) | Answer::Fault(_) => 0,
+        }
+    }
+
+    // The steps completed: none where the call is refused.
+    pub fn steps(self) -> u32
+        ensures { result ≡ steps_of self }
+    {
+        match self {
+            Answer::Done(steps) | Answer::Steps(steps) | Answer::Fault(steps) => steps,
+            Answer::Refused(_) => 0,
+        }
     }
 }

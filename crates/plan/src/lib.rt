@@ -1,62 +1,59 @@
 // The plan call: the pairs of greatest weight, with a certificate, or why there are none.
 #![tactic(auto)]
 
-ghost use Rattle.std.specs.Prelude.{◌≡◌, ◌<◌, length};
-ghost use Rattle.certificate.specs.Lists.{Known, Weighed, lent, room};
-ghost use Rattle.steps.specs.Plan.{plan_end, run};
-ghost use Rattle.steps.specs.State.{start};
+ghost use Rattle.std.specs.Prelude.{◌≡◌, ◌*◌, ◌+◌, ◌<◌, length};
+ghost use Rattle.certificate.specs.Lists.{room};
 ghost use Rattle.plan.specs.Lists.{Cleared};
+ghost use Rattle.plan.specs.Requests.{planned};
 ghost use Rattle.plan.specs.View.{plan_of, plan_lists};
 
 pub mod answers;
-mod lists;
-mod settle;
+mod ends;
+mod found;
+mod request;
+mod searching;
 
 use crate::answers::Answer;
-use crate::settle::settle;
-use certificate::answers::Intake;
+use crate::found::Found;
+use crate::request::Request;
+use crate::searching::settle;
 use certificate::intake::refusal;
-use clearing::{all_64, all_128, clear, clear_duals, copy_duals, zeros_128};
-use numbers::{MISSING, copy};
+use clearing::{clear, clear_duals};
 
-// The plan of edges that are not refused. The search works in lists of its own: only DONE fills the lent ones.
+// The plan of edges that are not refused. All lists that it works in stand here, with room for 64 nodes and 2,048 edges: only DONE
+// fills the lent ones. Fixed memory: nothing below the programs has a heap.
 fn plan_edges(
-    n: u16,
-    first: &[u16],
-    second: &[u16],
-    weight: &[i64],
-    flag: bool,
-    budget: u32,
+    request: &Request,
     mates: &mut [u16],
     duals: &mut [i64],
     parents: &mut [u16],
 ) -> Answer
-    requires { Known n first.now second.now × Weighed first.now weight.now × (0 < length first.now) × Cleared n mates.old duals.old parents.old }
-    ensures { plan_of result mates.new duals.new parents.new ≡ plan_end (lent n first.now second.now weight.now) flag (room (length mates.old) (length duals.old) (length parents.old)) (run (lent n first.now second.now weight.now) flag budget 0 (start (lent n first.now second.now weight.now))) }
+    requires { Cleared request.now.n mates.old duals.old parents.old }
+    ensures { plan_of result mates.new duals.new parents.new ≡ planned request.now (room (length mates.old) (length duals.old) (length parents.old)) }
 {
-    let k = n as usize;
-    let j = 2 * k;
-    let mut own_mates = all_64(MISSING);
-    let mut own_duals = zeros_128();
-    let mut own_parents = all_128(MISSING);
-    let answer = settle(
-        n,
-        first,
-        second,
-        weight,
-        flag,
-        budget,
-        &mut own_mates[..k],
-        &mut own_duals[..j],
-        &mut own_parents[..j],
+    let n = request.n as usize;
+    let m = request.count();
+    let mut numbers = [0u16; 23041];
+    let mut allowed = [false; 2048];
+    let mut amounts = [0i64; 256];
+    let (own, rest) = numbers.split_at_mut(3 * n);
+    let (own_duals, spare) = amounts.split_at_mut(2 * n);
+    let mut found = Found::new(request.n, own, own_duals);
+    let used = 4 * m + 37 * n + 1 + 3 * (n * n);
+    let settled = settle(
+        request,
+        &mut rest[..used],
+        &mut allowed[..m],
+        &mut spare[..2 * n],
+        &mut found,
     );
-    let Answer::Done(_) = answer else {
-        return answer;
-    };
-    copy(&own_mates[..k], &mut mates[..k]);
-    copy_duals(&own_duals[..j], &mut duals[..j]);
-    copy(&own_parents[..j], &mut parents[..j]);
-    answer
+    match settled {
+        Ok(steps) => {
+            found.fill(mates, duals, parents);
+            Answer::Done(steps)
+        }
+        Err(stopped) => Answer::of_stopped(stopped),
+    }
 }
 
 // The plan call. The three lent lists are cleared over their whole length before anything is read.
@@ -76,7 +73,7 @@ pub fn plan(
     clear(mates);
     clear_duals(duals);
     clear(parents);
-    let found = refusal(
+    if let Err(cause) = refusal(
         n,
         first,
         second,
@@ -84,24 +81,19 @@ pub fn plan(
         mates.len(),
         duals.len(),
         parents.len(),
-    );
-    match found {
-        Intake::Refused(cause) => Answer::Refused(cause),
-        Intake::Fine => {
-            if first.len() == 0 {
-                return Answer::Done(0);
-            }
-            plan_edges(
-                n as u16,
-                first,
-                second,
-                weight,
-                max_cardinality,
-                budget,
-                mates,
-                duals,
-                parents,
-            )
-        }
+    ) {
+        return Answer::Refused(cause);
     }
+    if first.len() == 0 {
+        return Answer::Done(0);
+    }
+    let request = Request {
+        n: n as u16,
+        first,
+        second,
+        weight,
+        flag: max_cardinality,
+        budget,
+    };
+    plan_edges(&request, mates, duals, parents)
 }

@@ -3,283 +3,131 @@
 // form is in compare/README.md.
 #![tactic(auto)]
 
-ghost use Rattle.std.specs.Prelude.{◌≡◌, ◌<◌, ◌≤◌, length};
+ghost use Rattle.std.specs.Prelude.{◌≤◌};
 
-use plan::answers::{answer_number, answer_place, answer_steps};
-use replays::read_full;
+use replays::{bytes, long_number, number, tell};
 use std::io;
 use std::io::{Read, Write};
 
+// Document 01's mark. The program knows the call alone, not the library's numbers.
 const MISSING: u16 = 65535;
 
+// The generic reader is `bytes`; std has its conversions width by width.
 fn byte<R: Read>(from: &mut R) -> u8 {
-    let mut b = [0u8; 1];
-    read_full(from, &mut b);
-    b[0]
-}
-
-fn wide(b: u8) -> u64
-    ensures { result < 256 }
-{
-    b as u64
-}
-
-// A number of two bytes, the low one first.
-fn number<R: Read>(from: &mut R) -> u16 {
-    let low = byte(from) as u16;
-    let high = byte(from) as u16;
-    low + 256 * high
-}
-
-// A number of four bytes.
-fn long_number<R: Read>(from: &mut R) -> u64
-    ensures { result < 4294967296 }
-{
-    let b0 = wide(byte(from));
-    let b1 = wide(byte(from));
-    let b2 = wide(byte(from));
-    let b3 = wide(byte(from));
-    b0 + 256 * b1 + 65536 * b2 + 16777216 * b3
-}
-
-// The number whose distance below -1 is this.
-fn below(size: u64) -> i64
-    requires { size < 9223372036854775808 }
-{
-    let z = size as i64;
-    -1 - z
-}
-
-fn above(size: u64) -> i64
-    requires { size < 9223372036854775808 }
-{
-    size as i64
+    u8::from_le_bytes(bytes(from))
 }
 
 // A signed number of four bytes.
-fn weight_read<R: Read>(from: &mut R) -> i64 {
-    let x = long_number(from);
-    if x >= 2147483648 {
-        return below(4294967295 - x);
-    }
-    above(x)
+fn weight_of<R: Read>(from: &mut R) -> i64 {
+    i64::from(i32::from_le_bytes(bytes(from)))
 }
 
 // A signed number of eight bytes.
-fn dual_read<R: Read>(from: &mut R) -> i64 {
-    let low = long_number(from);
-    let high = long_number(from);
-    if high >= 2147483648 {
-        return below((4294967295 - high) * 4294967296 + (4294967295 - low));
-    }
-    above(high * 4294967296 + low)
-}
-
-// The first k edges are read.
-fn read_edges<R: Read>(
-    from: &mut R,
-    first: &mut [u16; 2048],
-    second: &mut [u16; 2048],
-    weight: &mut [i64; 2048],
-    k: usize,
-)
-    requires { (k ≤ 2048) × (length first.old ≡ 2048) × (length second.old ≡ 2048) × (length weight.old ≡ 2048) }
-    ensures { (length first.new ≡ 2048) × (length second.new ≡ 2048) × (length weight.new ≡ 2048) }
-{
-    for i in 0..k {
-        first[i] = byte(from) as u16;
-        second[i] = byte(from) as u16;
-        weight[i] = weight_read(from);
-    }
-}
-
-// The first k numbers are those that come next, and all others are missing.
-fn same_numbers<R: Read>(from: &mut R, list: &[u16], k: usize) -> bool {
-    let mut same = true;
-    for i in 0..list.len() {
-        let mut x = MISSING;
-        if i < k {
-            x = number(from);
-        }
-        if list[i] != x {
-            same = false;
-        }
-    }
-    same
-}
-
-// The first k duals are those that come next, and all others are 0.
-fn same_duals<R: Read>(from: &mut R, list: &[i64], k: usize) -> bool {
-    let mut same = true;
-    for i in 0..list.len() {
-        let mut x = 0;
-        if i < k {
-            x = dual_read(from);
-        }
-        if list[i] != x {
-            same = false;
-        }
-    }
-    same
+fn dual_of<R: Read>(from: &mut R) -> i64 {
+    i64::from_le_bytes(bytes(from))
 }
 
 // The node at end p.
-fn node_at(first: &[u16], second: &[u16], p: u16) -> u16 {
-    let e = (p / 2) as usize;
-    if p % 2 == 0 {
-        if e < first.len() {
-            return first[e];
-        }
-        return MISSING;
-    }
-    if e < second.len() {
-        return second[e];
-    }
-    MISSING
+fn node_at(first: &[u16], second: &[u16], p: u16) -> Option<u16> {
+    let nodes = if p % 2 == 0 { first } else { second };
+    nodes.get(usize::from(p / 2)).copied()
 }
 
-// Node v's partner where v is the lower node of a pair, or missing.
-fn higher(first: &[u16], second: &[u16], mates: &[u16], v: usize) -> u16 {
-    if v >= mates.len() {
-        return MISSING;
-    }
-    let p = mates[v];
-    if p == MISSING {
-        return MISSING;
-    }
-    let w = node_at(first, second, p);
-    if v < w as usize { w } else { MISSING }
+// Node v and its partner at end p, where v is the lower of the two.
+fn pair_from(first: &[u16], second: &[u16], v: u16, p: u16) -> Option<(u16, u16)> {
+    let w = node_at(first, second, p)?;
+    (v < w).then_some((v, w))
 }
 
-// The next pair of the record is v and w.
-fn next_is<R: Read>(from: &mut R, v: usize, w: u16) -> bool {
-    let a = byte(from) as usize;
-    let b = byte(from) as u16;
-    if a != v {
-        return false;
-    }
-    b == w
-}
-
-// Pairs of the record that are left over are passed over.
-fn pass_over<R: Read>(from: &mut R, count: u8) -> bool {
-    let mut left = count;
-    while left > 0 {
-        byte(from);
-        byte(from);
-        left -= 1;
-    }
-    count == 0
-}
-
-// The pairs that the mates make, ascending by lower node, are those of the record.
+// The pairs that the mates make, ascending by lower node, are those of the record. All pairs of the record are read.
 fn same_pairs<R: Read>(from: &mut R, first: &[u16], second: &[u16], mates: &[u16]) -> bool {
-    let mut left = byte(from);
+    let mut pairs = (0..)
+        .zip(mates)
+        .filter_map(|(v, p)| pair_from(first, second, v, *p));
     let mut same = true;
-    for v in 0..mates.len() {
-        let w = higher(first, second, mates, v);
-        if w != MISSING {
-            if left == 0 {
-                same = false;
-            } else {
-                left -= 1;
-                if !next_is(from, v, w) {
-                    same = false;
-                }
-            }
-        }
+    for _ in 0..byte(from) {
+        let v = u16::from(byte(from));
+        let w = u16::from(byte(from));
+        same &= pairs.next() == Some((v, w));
     }
-    if !pass_over(from, left) {
-        same = false;
-    }
-    same
+    same && pairs.next().is_none()
 }
 
-// A write that fails is passed over.
-fn say<W: Write>(out: &mut W, x: u64, end: u8) {
-    let _ = write!(out, "{x}");
-    let _ = out.write_all(&[end]);
-}
-
-// What differs is said by a number of its own at the record's place.
-fn differs<W: Write>(out: &mut W, place: u32, what: u64, same: bool) {
-    if !same {
-        say(out, place as u64, b' ');
-        say(out, what, b'\n');
-    }
-}
-
-fn twice(n: u8) -> usize {
-    2 * (n as usize)
-}
-
-// Plans the edges of a record of n nodes and holds the answer against what comes next.
-fn compare<R: Read, W: Write>(
+// Plans the edges of a record of n nodes and holds the answer and the lent lists against what comes next. An entry that the record
+// doesn't have must be missing, a dual 0.
+fn compare<R: Read>(
     from: &mut R,
-    out: &mut W,
-    place: u32,
-    n: u8,
+    n: usize,
+    flag: bool,
     first: &[u16],
     second: &[u16],
     weight: &[i64],
-    flag: bool,
-) {
-    let mut mates = [7u16; 67];
-    let mut duals = [7i64; 131];
-    let mut parents = [7u16; 131];
+) -> [bool; 7]
+    requires { n ≤ 255 }
+{
+    let mut mates = [7; 67];
+    let mut duals = [7; 131];
+    let mut parents = [7; 131];
     let a = plan::plan(
-        n as usize,
+        n,
         first,
         second,
         weight,
         flag,
-        4294967295,
+        u32::MAX,
         &mut mates,
         &mut duals,
         &mut parents,
     );
-    differs(out, place, 1, answer_number(a) == 0);
-    differs(out, place, 2, answer_place(a) == 0);
-    differs(out, place, 3, answer_steps(a) as u64 == long_number(from));
-    differs(out, place, 4, same_pairs(from, first, second, &mates));
-    differs(out, place, 5, same_numbers(from, &mates, n as usize));
-    differs(out, place, 6, same_duals(from, &duals, twice(n)));
-    differs(out, place, 7, same_numbers(from, &parents, twice(n)));
+    let steps = long_number(from);
+    let pairs = same_pairs(from, first, second, &mates);
+    let mut next_mates = [MISSING; 67];
+    let mut next_duals = [0; 131];
+    let mut next_parents = [MISSING; 131];
+    next_mates[..n.min(67)].fill_with(|| number(from));
+    next_duals[..(2 * n).min(131)].fill_with(|| dual_of(from));
+    next_parents[..(2 * n).min(131)].fill_with(|| number(from));
+    [
+        a.number() == 0,
+        a.place() == 0,
+        a.steps() == steps,
+        pairs,
+        mates == next_mates,
+        duals == next_duals,
+        parents == next_parents,
+    ]
 }
 
 // One record of n nodes and m edges.
-fn replay<R: Read, W: Write>(from: &mut R, out: &mut W, place: u32, n: u8, m: usize, flag: bool)
-    requires { m ≤ 2048 }
+fn replay<R: Read>(from: &mut R, n: usize, flag: bool, m: usize) -> [bool; 7]
+    requires nodes { n ≤ 255 }
+    requires edges { m ≤ 2048 }
 {
-    let mut first = [0u16; 2048];
-    let mut second = [0u16; 2048];
-    let mut weight = [0i64; 2048];
-    read_edges(from, &mut first, &mut second, &mut weight, m);
-    compare(
-        from,
-        out,
-        place,
-        n,
-        &first[..m],
-        &second[..m],
-        &weight[..m],
-        flag,
-    );
+    let first = &mut [0; 2048][..m];
+    let second = &mut [0; 2048][..m];
+    let weight = &mut [0; 2048][..m];
+    let edges = first.iter_mut().zip(&mut *second).zip(&mut *weight);
+    for ((a, b), w) in edges {
+        *a = u16::from(byte(from));
+        *b = u16::from(byte(from));
+        *w = weight_of(from);
+    }
+    compare(from, n, flag, first, second, weight)
 }
 
-// The list begins with its mark, which is not looked at, and its count of records.
+// The list begins with its mark, which is not looked at, and its count of records. A write that fails is passed over.
 fn main(rt: HostRuntime) {
     let mut from = rt.reader();
     let mut out = io::writer(&rt);
     long_number(&mut from);
-    let count = long_number(&mut from) as u32;
+    let count = long_number(&mut from);
     for place in 0..count {
-        let n = byte(&mut from);
+        let n = usize::from(byte(&mut from));
         let flag = byte(&mut from) == 1;
-        let m = number(&mut from) as usize;
+        let m = usize::from(number(&mut from));
         if m <= 2048 {
-            replay(&mut from, &mut out, place, n, m, flag);
+            let _ = tell(&mut out, place, &replay(&mut from, n, flag, m));
         }
     }
-    say(&mut out, count as u64, b'\n');
+    let _ = writeln!(out, "{count}");
 }

@@ -3,26 +3,20 @@ use Rattle.std.specs.Prelude.{if◌then◌else◌}
 use mathlib.Core.Path.{◌≡◌, refl, sym, ap, ◌∙◌}
 use mathlib.Core.Bool.{Bool, true, false}
 use mathlib.Core.List.{List, [], ◌∷◌, ◌++◌, append_assoc, append-nil}
-use Prim.Native.Nat.{ℕ, zero, suc, ◌+◌, ◌*◌, ◌/◌, ◌^◌, ◌≤◌, ◌<◌}
+use Prim.Native.Nat.{ℕ, zero, suc, ◌+◌, ◌/◌, ◌≤◌, ◌<◌}
 use native.Mathlib.Nat.{not-suc-le-zero}
 use native.Mathlib.Numerals.{add-one}
 use native.Mathlib.Omega.{arith}
 use borrow.Author.Tests.{eq-eqb, ne_eqb, lt-ltb, le-ltb}
-use lib.IntN.{ℤ, pos, nat_abs, ◌+ℤ◌, +ℤ_idl, +ℤ_idr, +ℤ_assoc}
+use lib.IntN.{ℤ, pos, ◌+ℤ◌, +ℤ_idl, +ℤ_idr, +ℤ_assoc}
 use lib.ListN.{length, get_or, length-append}
-use mir.Syntax.{w64}
-use mir.Val.{SFits, to_z, of_z}
-use mir.ValLaws.{to_z-of_z}
 use Rattle.laws.specs.Lists.{range, total}
-use Rattle.laws.proofs.Integers.{abs_add, fits_near}
-use Rattle.numbers.specs.Near.{Near}
 use Rattle.matching.specs.Graph.{Graph, node_at, missing, is_odd}
 use Rattle.matching.specs.Certificate.{mate_of}
 use Rattle.matching.proofs.Readings.{of_slices}
 use Rattle.certificate.specs.Lists.{lent, end_node}
 use Rattle.laws.proofs.Loops.{get_d_any}
-use Rattle.printed.specs.Text.{decimal, signed_decimal, line}
-use Rattle.printed.specs.Answer.{name_done, Pair, pair_at, pairs_at, pair_line, pair_lines, printed_done}
+use Rattle.printed.specs.Answer.{Pair, pair_at, pairs_at, pair_line, pair_lines}
 use Rattle.printed.specs.Found.{weights_total}
 
 -- ---- lists of pairs, one after another
@@ -53,53 +47,6 @@ pub no_weight : pos 0 ≡ weights_total []
 unfolding total
 no_weight = refl
 
--- the weight of one edge, where all are near zero
-
-module _ (weight : List ℤ) (w : Near 1000000000 weight) where
-  pub weight_fits : (e : ℕ) → SFits w64 (get_or weight e (pos 0))
-  weight_fits e = fits_near (get_or weight e (pos 0)) (omega (arith, w.near e))
-
-  pub weight_seen : (e : ℕ) → to_z w64 (of_z w64 (get_or weight e (pos 0))) ≡ get_or weight e (pos 0)
-  weight_seen e = to_z-of_z w64 (get_or weight e (pos 0)) (weight_fits e)
-
-  pub weight_small : (e : ℕ) → nat_abs (to_z w64 (of_z w64 (get_or weight e (pos 0)))) ≤ 1000000000
-  weight_small e = rw (weight_seen e) (w.near e)
-
-  module _ (lower higher : ℕ) {i e : ℕ} (q : i ≡ e) where
-    pub found_weight : to_z w64 (of_z w64 (get_or weight i (pos 0))) ≡ weights_total (record { lower = lower; higher = higher; weight = get_or weight e (pos 0) } ∷ [])
-    found_weight = rw (q, weight_seen e) (one_weight (record { lower = lower; higher = higher; weight = get_or weight e (pos 0) }))
-
-    pub found_line : pair_line (record { lower = lower; higher = higher; weight = to_z w64 (of_z w64 (get_or weight i (pos 0))) })
-        ≡ pair_lines (record { lower = lower; higher = higher; weight = get_or weight e (pos 0) } ∷ [])
-    found_line = rw (q, weight_seen e) (one_line (record { lower = lower; higher = higher; weight = get_or weight e (pos 0) }))
-
--- a sum of at most 64 weights, and one more weight
-module _ (x y : ℤ) (v : ℕ) (few : v < 64) (f : nat_abs x ≤ v * 1000000000) (g : nat_abs y ≤ 1000000000) where
-  pub sum_near : nat_abs (x +ℤ y) ≤ (v + 1) * 1000000000
-  sum_near = omega (arith, abs_add x y)
-
-  seen : to_z w64 (of_z w64 y) ≡ y
-  seen = to_z-of_z w64 y (fits_near y (omega arith))
-
-  pub sum_fits : SFits w64 (x +ℤ to_z w64 (of_z w64 y))
-  sum_fits = rw seen (fits_near (x +ℤ y) (omega (arith, abs_add x y)))
-
-  pub sum_seen : to_z w64 (of_z w64 (x +ℤ to_z w64 (of_z w64 y))) ≡ x +ℤ y
-  sum_seen = to_z-of_z w64 (x +ℤ to_z w64 (of_z w64 y)) sum_fits ∙ ap (λ (z : ℤ). x +ℤ z) seen
-
--- the whole text of a plan that is done
-module _ (w : ℤ) (h : nat_abs w ≤ 64000000000) where
-  all_seen : to_z w64 (of_z w64 w) ≡ w
-  all_seen = to_z-of_z w64 w (fits_near w (omega arith))
-
-  pub all_near : nat_abs (to_z w64 (of_z w64 w)) < 2 ^ 62
-  all_near = rw all_seen (omega arith)
-
-  pub done_text : (ps : List Pair) (steps : ℕ) {count : ℕ} → count ≡ length ps → w ≡ weights_total ps
-      → line name_done (decimal count ∷ signed_decimal (to_z w64 (of_z w64 w)) ∷ decimal steps ∷ []) ++ pair_lines ps ≡ printed_done ps steps
-  unfolding printed_done
-  done_text ps steps e f = rw (all_seen, e, f)
-
 -- ---- the pairs of the nodes below v
 
 module _ (G : Graph) (mates : List ℕ) where
@@ -122,6 +69,13 @@ module _ (G : Graph) (mates : List ℕ) where
 
   pub weight_more : (v : ℕ) → weights_total (pairs_at G mates (range 0 (v + 1))) ≡ weights_total (pairs_at G mates (range 0 v)) +ℤ weights_total (pair_at G mates v)
   weight_more v = ap weights_total (pairs_more v) ∙ total_both (pairs_at G mates (range 0 v)) (pair_at G mates v)
+
+  module _ (v : ℕ) where
+    pub count_one : (x : Pair) → x ∷ [] ≡ pair_at G mates v → length (pairs_at G mates (range 0 (v + 1))) ≡ length (pairs_at G mates (range 0 v)) + 1
+    count_one x e = rw (count_more v, ← e) refl
+
+    pub count_skip : [] ≡ pair_at G mates v → length (pairs_at G mates (range 0 (v + 1))) ≡ length (pairs_at G mates (range 0 v))
+    count_skip e = omega (arith, count_more v, ap length e)
 
   pub lines_more : (v : ℕ) → pair_lines (pairs_at G mates (range 0 (v + 1))) ≡ pair_lines (pairs_at G mates (range 0 v)) ++ pair_lines (pair_at G mates v)
   lines_more v = ap pair_lines (pairs_more v) ∙ lines_both (pairs_at G mates (range 0 v)) (pair_at G mates v)
@@ -176,3 +130,9 @@ module _ (n : ℕ) (first second : List ℕ) (weight : List ℤ) (k : length sec
       -- an end of no edge is at node 0, which is no higher node
       pub pair_out : length first ≤ get_or mates v 0 / 2 → [] ≡ pair_at (lent n first second weight) mates v
       pair_out l = pair_turned (omega (arith, node_far first second (get_or mates v 0) k l))
+
+pub ruleset nodes = (pair_none, pair_turned, pair_with, pair_out)
+
+pub ruleset counts = (pairs_none, count_one, count_skip)
+
+pub ruleset weights = (pairs_none, no_weight, one_weight, weight_more)

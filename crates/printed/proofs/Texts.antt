@@ -3,13 +3,14 @@ use mathlib.Core.Path.{◌≡◌, refl, sym, ap, ◌∙◌}
 use mathlib.Core.Bool.{Bool, true, false}
 use mathlib.Core.List.{List, [], ◌∷◌, ◌++◌, append_assoc, append-nil}
 use Prim.Native.Nat.{ℕ, zero, suc, ◌+◌, ◌-◌, ◌/◌, ◌%◌, ◌≤◌, ◌<◌}
-use native.Mathlib.Numerals.{add-one}
 use native.Mathlib.Omega.{arith}
 use borrow.Author.Tests.{lt-ltb, le-ltb, ltb-false}
 use lib.Dec.{ltb}
-use lib.ListN.{length, get_or, set, take, drop, length-set, length-append, length-take, take-append-drop}
-use lib.Seq.{drop-drop, drop-set-lt, take_all, take-suc, take-suc-set, take-append_seam, length-take-le}
+use lib.ListN.{length, take, drop, length-append, length-take, take-append-drop}
+use lib.Seq.{drop-drop, take_all, take-append_seam, take-append-add, drop-append-add, drop-append_seam, length-take-le}
+use Rattle.std.proofs.lemmas.List.{length-drop}
 use Rattle.printed.specs.Text.{digit, digits, decimal}
+use Rattle.printed.specs.Page.{Page, with_text}
 use Rattle.printed.specs.View.{Put}
 
 -- ---- pieces
@@ -30,19 +31,6 @@ module _ (buffer : List ℕ) (at : ℕ) where
       rw (append-nil (take at buffer)) (take_all (length buffer) (take at buffer) (omega (arith, taken h))) in
       record { holds = sym e; within = h; counts = rw e (sym (taken h)); rest = refl }
 
-  module _ (b : ℕ) where
-    pub put_in : at < length buffer → Put buffer at (b ∷ []) (set buffer at b) (at + 1)
-    put_in h =
-        let l : length (take at buffer ++ (b ∷ [])) ≡ at + 1 = length-append (take at buffer) (b ∷ []) ∙ ap (λ (k : ℕ). k + 1) (taken (omega arith)) in
-        let e : take (length buffer) (take at buffer ++ (b ∷ [])) ≡ take at buffer ++ (b ∷ []) = take_all (length buffer) (take at buffer ++ (b ∷ [])) (omega arith) in
-        record { holds = rw (e, add-one at) (take-suc-set buffer at b h); within = rw (length-set buffer at b) (omega arith); counts = rw e (sym l); rest = drop-set-lt (at + 1) buffer at b (omega arith) }
-
-    pub put_out : at ≤ length buffer → length buffer ≤ at → Put buffer at (b ∷ []) buffer at
-    put_out h l =
-        let q : take at buffer ≡ buffer = take_all at buffer l in
-        let e : take (length buffer) (take at buffer ++ (b ∷ [])) ≡ take at buffer = rw q (take-append_seam buffer (b ∷ [])) in
-        record { holds = sym e; within = h; counts = rw e (sym (taken h)); rest = refl }
-
 -- what stands further on, where two buffers agree from some place on
 drop_later : (i j : ℕ) (a b : List ℕ) → i ≤ j → drop i a ≡ drop i b → drop j a ≡ drop j b
 drop_later i j a b h e =
@@ -59,10 +47,6 @@ put_then {b₀} {b₁} {b₂} {x} {y} {at} {e₁} {e₂} p l q =
     let g : e₁ ≤ e₂ = omega (arith, q.counts, length-take (length b₁) (take e₁ b₁ ++ y), p.within) in
     record { holds = q.holds ∙ e; within = q.within; counts = q.counts ∙ ap length e; rest = q.rest ∙ drop_later e₁ e₂ b₁ b₀ g p.rest }
 
--- the same text
-pub put_same : {b₀ b₁ x y : List ℕ} {at e : ℕ} → x ≡ y → Put b₀ at x b₁ e → Put b₀ at y b₁ e
-put_same {b₀} {b₁} {at} {e} h p = rw h at p
-
 -- there is one buffer and one count that a text can be put with
 pub put_one : {b x a a' : List ℕ} {at e e' : ℕ} → Put b at x a e → Put b at x a' e' → (a ≡ a') × (e ≡ e')
 put_one {b} {x} {a} {a'} {at} {e} {e'} p q =
@@ -72,9 +56,54 @@ put_one {b} {x} {a} {a'} {at} {e} {e'} p q =
     let h : take e a ++ drop e a ≡ take e' a' ++ drop e' a' = rw (f, g) in
     (sym (take-append-drop e a) ∙ h ∙ take-append-drop e' a', k)
 
--- one byte more of a text
-pub one_more : (text : List ℕ) (i : ℕ) → i < length text → take i text ++ (get_or text i 0 ∷ []) ≡ take (i + 1) text
-one_more text i h = rw (add-one i) (sym (take-suc text i 0 h))
+-- what a text put after the bytes in use does to the buffer
+module _ (text : List ℕ) (p : Page) (h : p.len ≤ length p.bytes) where
+  front : length (take p.len p.bytes) ≡ p.len
+  front = length-take-le p.len p.bytes h
+
+  abbrev fits : List ℕ
+  fits = take (length p.bytes - p.len) text
+
+  abbrev after : List ℕ
+  after = drop (p.len + length fits) p.bytes
+
+  few : length fits ≤ length p.bytes - p.len
+  few = omega (arith, length-take (length p.bytes - p.len) text)
+
+  whole : take (length p.bytes) (take p.len p.bytes ++ text) ≡ take p.len p.bytes ++ fits
+  whole =
+      let e : length (take p.len p.bytes) + (length p.bytes - p.len) ≡ length p.bytes = omega (arith, front) in
+      rw e at (take-append-add (take p.len p.bytes) text (length p.bytes - p.len))
+
+  used : take (p.len + length fits) (take p.len p.bytes ++ (fits ++ after)) ≡ take p.len p.bytes ++ fits
+  used =
+      rw front at (take-append-add (take p.len p.bytes) (fits ++ after) (length fits))
+      ∙ ap (λ (t : List ℕ). take p.len p.bytes ++ t) (take-append_seam fits after)
+
+  unused : drop (p.len + length fits) (take p.len p.bytes ++ (fits ++ after)) ≡ after
+  unused = rw front at (drop-append-add (take p.len p.bytes) (fits ++ after) (length fits)) ∙ drop-append_seam fits after
+
+  pub text_length : length (with_text text p).bytes ≡ length p.bytes
+  unfolding with_text
+  text_length =
+      omega (arith, few, front, length-append (take p.len p.bytes) (fits ++ after), length-append fits after, length-drop (p.len + length fits) p.bytes)
+
+  pub text_puts : Put p.bytes p.len text (with_text text p).bytes (with_text text p).len
+  unfolding with_text
+  text_puts =
+      record {
+        holds = used ∙ sym whole;
+        within = omega (arith, few, text_length);
+        counts = sym (ap length whole ∙ length-append (take p.len p.bytes) fits ∙ ap (λ (k : ℕ). k + length fits) front);
+        rest = unused;
+      }
+
+pub with_both : (x y : List ℕ) (p : Page) → p.len ≤ length p.bytes → with_text y (with_text x p) ≡ with_text (x ++ y) p
+with_both x y p h =
+    let one = text_puts x p h in
+    let two = text_puts y (with_text x p) one.within in
+    let e = put_one (put_then one (text_length x p h) two) (text_puts (x ++ y) p h) in
+    λ i. record { bytes = e.0 i; len = e.1 i }
 
 -- ---- digits
 

@@ -1,19 +1,26 @@
 -- What the code finds of one pair, as the definition's pairs.
-use Rattle.std.specs.Prelude.{List, [], ◌∷◌, ℕ, ◌<◌, ℤ, pos, get_or}
+use Rattle.std.specs.Prelude.{Option, Some, None, List, [], ◌∷◌, ℤ}
 use Rattle.laws.specs.Lists.{total}
-use Rattle.printed.specs.Answer.{Pair}
-use Rattle.printed.specs.declared.pairs.Paired.{Paired}
-use Rattle.printed.specs.declared.pairs.Paired.TheVariants as paired
+use Rattle.matching.specs.Graph.{Graph}
+use Rattle.certificate.specs.Lists.{lent}
+use Rattle.printed.specs.Answer as answer
+use Rattle.printed.specs.declared.pair.Pair.{Pair}
+use Rattle.printed.specs.declared.pair.Plan.{Plan}
 
--- one pair or none, where v is the lower node
-abbrev pub pair_in : Paired → (v : ℕ) → (weight : List ℤ) → List Pair
-pair_in (paired.With u e) v weight = record { lower = v; higher = u.0; weight = get_or weight e.0 (pos 0) } ∷ []
-pair_in paired.Alone v weight = []
+abbrev pub pair_view : Pair → answer.Pair
+pair_view x = record { lower = x.lower.0; higher = x.higher.0; weight = x.weight }
 
--- its edge is one of so many
-abbrev pub EdgeBelow : (edges : ℕ) → Paired → Type 0
-EdgeBelow edges (paired.With u e) = e.0 < edges
-EdgeBelow edges paired.Alone = Unit {0}
+-- one pair or none
+abbrev pub pair_in : Option Pair → List answer.Pair
+pair_in (Some x) = pair_view x ∷ []
+pair_in None = []
 
-abbrev pub weights_total : List Pair → ℤ
+abbrev pub graph_in : Plan → Graph
+graph_in p = lent p.n p.first.now p.second.now p.weight.now
+
+-- the pairs of a plan
+abbrev pub pairs_in : Plan → List answer.Pair
+pairs_in p = answer.pairs_of (graph_in p) p.mates.now
+
+abbrev pub weights_total : List answer.Pair → ℤ
 weights_total ps = total ps (λ x. x.weight)

@@ -1,117 +1,88 @@
 // Names and lines of the printed answer.
-ghost use Rattle.std.specs.Prelude.{◌≡◌, [], ◌∷◌, ◌^◌, ◌≤◌, ◌<◌, nat_abs, length};
+ghost use Rattle.std.specs.Prelude.{◌≡◌, [], ◌∷◌, ◌^◌, ◌<◌, nat_abs};
 ghost use Rattle.steps.specs.Refusals.{refusal_place};
-ghost use Rattle.certificate.specs.Lists.{lent};
 ghost use Rattle.certificate.specs.View.{cause_of};
-ghost use Rattle.numbers.specs.Near.{Near};
 ghost use Rattle.records.specs.View.{complaint_of};
 ghost use Rattle.printed.specs.Text.{decimal, signed_decimal, line};
-ghost use Rattle.printed.specs.Answer.{name_done, complaint_name, refusal_name, printed_complaint, printed_other, printed_done, pairs_of, pair_line};
-ghost use Rattle.printed.specs.View.{Put};
+ghost use Rattle.printed.specs.Answer.{name_done, complaint_name, refusal_name, printed_complaint, printed_other, printed_done};
+ghost use Rattle.printed.specs.Found.{pairs_in};
+ghost use Rattle.printed.specs.Written.{Puts};
 
-use crate::pairs::{count_pairs, put_pairs, weigh_pairs};
-use crate::text::{put_byte, put_bytes, put_decimal, put_signed};
+use crate::pair::Plan;
+use crate::text::Text;
 use certificate::answers::Cause;
-use numbers::Node;
-use records::records::Complaint;
+use records::complaint::Complaint;
 
 // The name of a refusal: a fixed byte string.
-fn put_name(out: &mut [u8], at: usize, c: Complaint) -> usize
-    requires { at ≤ length out.old }
-    ensures { Put out.old at (complaint_name (complaint_of c)) out.new result }
+fn name(c: Complaint) -> &'static [u8]
+    ensures { result.now ≡ complaint_name (complaint_of c) }
 {
     match c {
-        Complaint::Nodes => put_bytes(out, at, b"NODES"),
-        Complaint::Edges => put_bytes(out, at, b"EDGES"),
-        Complaint::Buffer => put_bytes(out, at, b"BUFFER"),
-        Complaint::Kind => put_bytes(out, at, b"KIND"),
-        Complaint::Cut => put_bytes(out, at, b"CUT"),
-        Complaint::Order => put_bytes(out, at, b"ORDER"),
-        Complaint::Time => put_bytes(out, at, b"TIME"),
-        Complaint::Long => put_bytes(out, at, b"LONG"),
+        Complaint::Nodes => b"NODES",
+        Complaint::Edges => b"EDGES",
+        Complaint::Buffer => b"BUFFER",
+        Complaint::Kind => b"KIND",
+        Complaint::Cut => b"CUT",
+        Complaint::Order => b"ORDER",
+        Complaint::Time => b"TIME",
+        Complaint::Long => b"LONG",
     }
 }
 
-// A refusal's line: name and place.
-pub fn put_complaint(out: &mut [u8], at: usize, c: Complaint, place: u64) -> usize
-    requires { at ≤ length out.old }
-    ensures { Put out.old at (printed_complaint (complaint_of c) place) out.new result }
-{
-    let named = put_name(out, at, c);
-    let parted = put_byte(out, named, 32);
-    let placed = put_decimal(out, parted, place);
-    put_byte(out, placed, 10)
-}
-
-// A pair's line: lower node, higher node, weight.
-pub(crate) fn put_pair(out: &mut [u8], at: usize, lower: Node, higher: Node, w: i64) -> usize
-    requires { (at ≤ length out.old) × (nat_abs w < 2 ^ 62) }
-    ensures { Put out.old at (pair_line (record { lower = lower.0; higher = higher.0; weight = w })) out.new result }
-{
-    let a = put_decimal(out, at, lower.number() as u64);
-    let b = put_byte(out, a, 32);
-    let c = put_decimal(out, b, higher.number() as u64);
-    let d = put_byte(out, c, 32);
-    let e = put_signed(out, d, w);
-    put_byte(out, e, 10)
-}
-
-// A line of name and place.
-pub fn put_other(out: &mut [u8], at: usize, name: &[u8], place: u64) -> usize
-    requires { at ≤ length out.old }
-    ensures { Put out.old at (printed_other name.now place) out.new result }
-{
-    let named = put_bytes(out, at, name);
-    let parted = put_byte(out, named, 32);
-    let placed = put_decimal(out, parted, place);
-    put_byte(out, placed, 10)
-}
-
-// The line of a plan that is refused.
-pub fn put_refusal(out: &mut [u8], at: usize, c: Cause) -> usize
-    requires { at ≤ length out.old }
-    ensures { Put out.old at (printed_other (refusal_name (cause_of c)) (refusal_place (cause_of c))) out.new result }
-{
-    match c {
-        Cause::Nodes => put_other(out, at, b"NODES", 0),
-        Cause::Edges => put_other(out, at, b"EDGES", 0),
-        Cause::Buffer => put_other(out, at, b"BUFFER", 0),
-        Cause::End(e) => put_other(out, at, b"END", e.number() as u64),
-        Cause::Loop(e) => put_other(out, at, b"LOOP", e.number() as u64),
-        Cause::Weight(e) => put_other(out, at, b"WEIGHT", e.number() as u64),
+impl<'a> Text<'a> {
+    // A line of name and place.
+    #[tactic(auto, using(crate::proofs::Lines::lines))]
+    pub fn put_other(&mut self, name: &[u8], place: u64)
+        ensures { Puts (printed_other name.now place) self.old self.new }
+    {
+        self.put(name);
+        self.put(b" ");
+        self.put_number(place);
+        self.put(b"\n");
     }
-}
 
-// The first line of a plan that is done: pair count, total weight, steps.
-fn put_head(out: &mut [u8], at: usize, count: u16, total: i64, steps: u32) -> usize
-    requires { (at ≤ length out.old) × (nat_abs total < 2 ^ 62) }
-    ensures { Put out.old at (line name_done (decimal count ∷ signed_decimal total ∷ decimal steps ∷ [])) out.new result }
-{
-    let a = put_bytes(out, at, b"DONE ");
-    let b = put_decimal(out, a, count as u64);
-    let c = put_byte(out, b, 32);
-    let d = put_signed(out, c, total);
-    let e = put_byte(out, d, 32);
-    let f = put_decimal(out, e, steps as u64);
-    put_byte(out, f, 10)
-}
+    // A refused file's line.
+    pub fn put_complaint(&mut self, c: Complaint, place: u64)
+        ensures { Puts (printed_complaint (complaint_of c) place) self.old self.new }
+    {
+        self.put_other(name(c), place);
+    }
 
-// A plan that is done: its first line, and then each pair's.
-pub fn put_done(
-    out: &mut [u8],
-    at: usize,
-    n: u16,
-    first: &[u16],
-    second: &[u16],
-    weight: &[i64],
-    mates: &[u16],
-    steps: u32,
-) -> usize
-    requires { (at ≤ length out.old) × (n ≤ 64) × (length mates.now ≡ n) × (length second.now ≡ length first.now) × (length weight.now ≡ length first.now) × Near 1000000000 weight.now }
-    ensures { Put out.old at (printed_done (pairs_of (lent n first.now second.now weight.now) mates.now) steps) out.new result }
-{
-    let count = count_pairs(n, first, second, mates);
-    let total = weigh_pairs(n, first, second, weight, mates);
-    let headed = put_head(out, at, count, total, steps);
-    put_pairs(out, headed, n, first, second, weight, mates)
+    // The line of a plan that is refused.
+    pub fn put_refusal(&mut self, c: Cause)
+        ensures { Puts (printed_other (refusal_name (cause_of c)) (refusal_place (cause_of c))) self.old self.new }
+    {
+        match c {
+            Cause::Nodes => self.put_other(b"NODES", 0),
+            Cause::Edges => self.put_other(b"EDGES", 0),
+            Cause::Buffer => self.put_other(b"BUFFER", 0),
+            Cause::End(e) => self.put_other(b"END", u64::from(e.number())),
+            Cause::Loop(e) => self.put_other(b"LOOP", u64::from(e.number())),
+            Cause::Weight(e) => self.put_other(b"WEIGHT", u64::from(e.number())),
+        }
+    }
+
+    // The first line of a plan that is done: pair count, total weight, steps.
+    #[tactic(auto, using(crate::proofs::Lines::lines))]
+    fn put_head(&mut self, count: u16, total: i64, steps: u32)
+        requires { nat_abs total < 2 ^ 62 }
+        ensures { Puts (line name_done (decimal count ∷ signed_decimal total ∷ decimal steps ∷ [])) self.old self.new }
+    {
+        self.put(b"DONE ");
+        self.put_number(count);
+        self.put(b" ");
+        self.put_number(total);
+        self.put(b" ");
+        self.put_number(steps);
+        self.put(b"\n");
+    }
+
+    // A plan that is done: its first line, and then each pair's.
+    #[tactic(auto, using(crate::proofs::Lines::lines))]
+    pub fn put_done(&mut self, plan: Plan, steps: u32)
+        ensures { Puts (printed_done (pairs_in plan.entry) steps) self.old self.new }
+    {
+        self.put_head(plan.count(), plan.weigh(), steps);
+        self.put_pairs(plan);
+    }
 }

@@ -1,18 +1,18 @@
 -- The lent lists as a list of edges: its length, and one edge more; and what each record's code does to what has been read.
 use mathlib.Core.Path.{◌≡◌, refl, sym, ap, ◌∙◌}
-use mathlib.Core.Bool.{true, false}
 use mathlib.Core.List.{List, [], ◌∷◌, ◌++◌}
 use Prim.Native.Nat.{ℕ, zero, suc, ◌+◌, ◌≤◌, ◌<◌, zero-le}
 use native.Mathlib.Numerals.{add-one}
 use native.Mathlib.Omega.{arith}
-use borrow.Author.Tests.{le-leb, lt-leb}
 use lib.Dec.{leb}
 use lib.IntN.{ℤ}
-use lib.ListN.{length, set, take, replicate, length-take}
+use lib.ListN.{length, set, take}
 use lib.Seq.{take-suc-set, length-take-le}
 use Rattle.matching.specs.Graph.{Edge, edge, edges_from}
 use Rattle.steps.specs.Refusals.{max_edges}
-use Rattle.records.specs.View.{edges_in}
+use Rattle.records.specs.Site.{is_full}
+use Rattle.records.specs.View.{edges_in, view_of}
+use Rattle.records.specs.declared.draft.Draft.{Draft}
 
 -- ---- three lists side by side
 
@@ -39,27 +39,27 @@ from_snoc (a ∷ xs) (b ∷ ys) [] x y z e f = let no_way : ⊥ = omega arith in
 from_snoc (a ∷ xs) (b ∷ ys) (c ∷ zs) x y z e f = ap {B = List Edge} (λ t. edge a b c ∷ t) (from_snoc xs ys zs x y z (omega arith) (omega arith))
 
 module _ (F S : List ℕ) (W : List ℤ) (k : ℕ) where
-  module _ (f : max_edges ≤ length F) (g : max_edges ≤ length S) (h : max_edges ≤ length W) where
-    pub full_yes : max_edges ≤ k → leb max_edges (length (edges_in k F S W)) ≡ true
-    full_yes l =
-        le-leb max_edges (length (edges_in k F S W))
-        (from_least max_edges (take k F) (take k S) (take k W) (rw (length-take k F) (omega arith)) (rw (length-take k S) (omega arith)) (rw (length-take k W) (omega arith)))
-
-    pub full_no : k < max_edges → leb max_edges (length (edges_in k F S W)) ≡ false
-    full_no l = lt-leb max_edges (length (edges_in k F S W)) (omega (arith, from_most (take k F) (take k S) (take k W), length-take k F))
+  module _ (f : k ≤ length F) (g : k ≤ length S) (h : k ≤ length W) where
+    pub counted : length (edges_in k F S W) ≡ k
+    counted =
+        let lf = length-take-le k F f in
+        let ls = length-take-le k S g in
+        let lw = length-take-le k W h in
+        let least = from_least k (take k F) (take k S) (take k W) (omega (arith, lf)) (omega (arith, ls)) (omega (arith, lw)) in
+        omega (arith, lf, from_most (take k F) (take k S) (take k W), least)
 
   module _ (f : k < length F) (g : k < length S) (h : k < length W) where
-    pub one_more : (a b : ℕ) (w : ℤ) {F' S' : List ℕ} {W' : List ℤ} → F' ≡ set F k a → S' ≡ set S k b → W' ≡ set W k w
-        → edges_in (k + 1) F' S' W' ≡ edges_in k F S W ++ (edge a b w ∷ [])
-    one_more a b w p q r =
-        rw (p, q, r, add-one k, take-suc-set F k a f, take-suc-set S k b g, take-suc-set W k w h)
+    pub one_more : (a b : ℕ) (w : ℤ) → edges_in (k + 1) (set F k a) (set S k b) (set W k w) ≡ edges_in k F S W ++ (edge a b w ∷ [])
+    one_more a b w =
+        rw (add-one k, take-suc-set F k a f, take-suc-set S k b g, take-suc-set W k w h)
         (from_snoc (take k F) (take k S) (take k W) a b w
         (length-take-le k F (omega arith) ∙ sym (length-take-le k S (omega arith)))
         (length-take-le k F (omega arith) ∙ sym (length-take-le k W (omega arith))))
 
--- ---- times
-
-pub take_replicate : (n k v : ℕ) → n ≤ k → take n (replicate k v) ≡ replicate n v
-take_replicate zero k v h = refl
-take_replicate (suc n) zero v h = let no_way : ⊥ = omega arith in absurd no_way
-take_replicate (suc n) (suc k) v h = ap {B = List ℕ} (λ t. v ∷ t) (take_replicate n k v (omega arith))
+-- a draft is full when so many edges have been counted
+pub full : (p : ℕ) (d : Draft) → is_full (view_of p d) ≡ leb max_edges d.read.count
+unfolding is_full
+full p d =
+    let few = d.read.few_edges in
+    rw (counted d.first.now d.second.now d.weight.now d.read.count
+    (omega (arith, few, d.room_first)) (omega (arith, few, d.room_second)) (omega (arith, few, d.room_weight)))

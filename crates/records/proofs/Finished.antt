@@ -1,4 +1,5 @@
 -- The answer of the whole reader and the lent lists, once every entry past the edges is 0.
+use Rattle.std.specs.Prelude.{Result, Ok, Err}
 use mathlib.Core.Path.{◌≡◌, refl, sym, ap, ◌∙◌}
 use mathlib.Core.List.{List, [], ◌∷◌, ◌++◌, map}
 use Prim.Native.Nat.{ℕ, min, ◌-◌, ◌≤◌}
@@ -10,9 +11,9 @@ use Rattle.matching.specs.Graph.{Edge, edges_from}
 use Rattle.records.specs.Site.{read_site, told, edges_of}
 use Rattle.records.specs.View.{edges_in}
 use Rattle.records.specs.WholeView.{told_by, site_view, edge_count, padded, ReadAs}
-use Rattle.records.specs.declared.whole.Site.{Site}
-use Rattle.records.specs.declared.whole.Site.TheVariants as answer
-use Rattle.records.proofs.Edges.{from_least, from_most}
+use Rattle.records.specs.declared.site.Head.{Head}
+use Rattle.records.specs.declared.site.Refused.{Refused}
+use Rattle.records.proofs.Edges.{counted}
 
 -- ---- the three lists of a list of edges
 
@@ -46,9 +47,6 @@ module _ (k : ℕ) (F S : List ℕ) (W : List ℤ) (f : k ≤ length F) (g : k �
   lw : length (take k F) ≡ length (take k W)
   lw = lf ∙ sym (length-take-le k W h)
 
-  counted : length (edges_in k F S W) ≡ k
-  counted = omega (arith, lf, from_most (take k F) (take k S) (take k W), from_least (length (take k F)) (take k F) (take k S) (take k W) (omega arith) (omega (arith, ls)) (omega (arith, lw)))
-
   firsts_in : map (λ (x : Edge). x.first) (edges_in k F S W) ≡ take k F
   firsts_in = firsts_of (take k F) (take k S) (take k W) ls lw
 
@@ -63,24 +61,28 @@ as_padded : {A : Type 0} (v : A) (k : ℕ) (l xs : List A) → k ≤ length l �
 as_padded v k l xs h e = rw (e, length-take-le k l h)
 
 module _ (F S : List ℕ) (W : List ℤ) where
-  answers_of : (r : Site) → edge_count r ≤ length F → edge_count r ≤ length S → edge_count r ≤ length W → told_by r ≡ told (site_view r F S W)
-  answers_of (answer.Read x) f g h = rw (counted x.edges F S W f g h)
-  answers_of (answer.Refused c p) f g h = refl
+  answers_of : (r : Result Head Refused) → edge_count r ≤ length F → edge_count r ≤ length S → edge_count r ≤ length W
+      → told_by r ≡ told (site_view r F S W)
+  answers_of (Ok x) f g h = rw (counted F S W x.edges f g h)
+  answers_of (Err e) f g h = refl
 
-  firsts_all : (r : Site) → edge_count r ≤ length F → edge_count r ≤ length S → edge_count r ≤ length W → map (λ (x : Edge). x.first) (edges_of (site_view r F S W)) ≡ take (edge_count r) F
-  firsts_all (answer.Read x) f g h = firsts_in x.edges F S W f g h
-  firsts_all (answer.Refused c p) f g h = refl
+  firsts_all : (r : Result Head Refused) → edge_count r ≤ length F → edge_count r ≤ length S → edge_count r ≤ length W
+      → map (λ (x : Edge). x.first) (edges_of (site_view r F S W)) ≡ take (edge_count r) F
+  firsts_all (Ok x) f g h = firsts_in x.edges F S W f g h
+  firsts_all (Err e) f g h = refl
 
-  seconds_all : (r : Site) → edge_count r ≤ length F → edge_count r ≤ length S → edge_count r ≤ length W → map (λ (x : Edge). x.second) (edges_of (site_view r F S W)) ≡ take (edge_count r) S
-  seconds_all (answer.Read x) f g h = seconds_in x.edges F S W f g h
-  seconds_all (answer.Refused c p) f g h = refl
+  seconds_all : (r : Result Head Refused) → edge_count r ≤ length F → edge_count r ≤ length S → edge_count r ≤ length W
+      → map (λ (x : Edge). x.second) (edges_of (site_view r F S W)) ≡ take (edge_count r) S
+  seconds_all (Ok x) f g h = seconds_in x.edges F S W f g h
+  seconds_all (Err e) f g h = refl
 
-  weights_all : (r : Site) → edge_count r ≤ length F → edge_count r ≤ length S → edge_count r ≤ length W → map (λ (x : Edge). x.weight) (edges_of (site_view r F S W)) ≡ take (edge_count r) W
-  weights_all (answer.Read x) f g h = weights_in x.edges F S W f g h
-  weights_all (answer.Refused c p) f g h = refl
+  weights_all : (r : Result Head Refused) → edge_count r ≤ length F → edge_count r ≤ length S → edge_count r ≤ length W
+      → map (λ (x : Edge). x.weight) (edges_of (site_view r F S W)) ≡ take (edge_count r) W
+  weights_all (Ok x) f g h = weights_in x.edges F S W f g h
+  weights_all (Err e) f g h = refl
 
 -- file; the lent lists at entry; the answer; the lent lists with the edges at their front; k entries kept; the lent lists at exit
-module _ (file F S : List ℕ) (W : List ℤ) (r : Site) (F₁ S₁ : List ℕ) (W₁ : List ℤ) where
+module _ (file F S : List ℕ) (W : List ℤ) (r : Result Head Refused) (F₁ S₁ : List ℕ) (W₁ : List ℤ) where
   module _ (e : site_view r F₁ S₁ W₁ ≡ read_site (min (length F) (min (length S) (length W))) file) (k : ℕ) (q : k ≡ edge_count r) where
     module _ (f : edge_count r ≤ length F) (g : edge_count r ≤ length S) (h : edge_count r ≤ length W) where
       module _ (l_f : length F₁ ≡ length F) (l_s : length S₁ ≡ length S) (l_w : length W₁ ≡ length W) where

@@ -1,7 +1,6 @@
 -- Worked files, and the laws that the proofs share.
 pub mod Worked
-pub mod Laws
-pub mod ReaderLaws
+pub mod Numbers
 pub mod Edges
 pub mod Judged
 pub mod Finished

@@ -1,17 +1,13 @@
 -- The code's states and answers as the definition's.
-use Rattle.std.specs.Prelude.{List, ℕ, ◌≤◌, ◌<◌, ℤ, take}
+use Rattle.std.specs.Prelude.{◌≡◌, Option, Some, None, Result, Ok, Err, List, ℕ, ℤ, take}
 use Rattle.matching.specs.Graph.{Edge, edges_from}
-use Rattle.steps.specs.Refusals.{max_nodes, max_edges}
 use Rattle.records.specs.Site as site
-use Rattle.records.specs.declared.cursor.Kind.{Kind}
-use Rattle.records.specs.declared.cursor.Kind.TheVariants as kind
-use Rattle.records.specs.declared.cursor.Named.{Named}
-use Rattle.records.specs.declared.cursor.Named.TheVariants as named
-use Rattle.records.specs.declared.records.Complaint.{Complaint}
-use Rattle.records.specs.declared.records.Complaint.TheVariants as complaint
-use Rattle.records.specs.declared.records.Reading.{Reading}
-use Rattle.records.specs.declared.records.Next.{Next}
-use Rattle.records.specs.declared.records.Next.TheVariants as next
+use Rattle.records.specs.declared.kind.Kind.{Kind}
+use Rattle.records.specs.declared.kind.Kind.TheVariants as kind
+use Rattle.records.specs.declared.complaint.Complaint.{Complaint}
+use Rattle.records.specs.declared.complaint.Complaint.TheVariants as complaint
+use Rattle.records.specs.declared.draft.Reading.{Reading}
+use Rattle.records.specs.declared.draft.Draft.{Draft}
 
 abbrev pub kind_view : Kind → site.Kind
 kind_view kind.N = site.N
@@ -22,9 +18,9 @@ kind_view kind.T = site.T
 kind_view kind.J = site.J
 kind_view kind.G = site.G
 
-abbrev pub named_of : Named → site.Named
-named_of (named.Known k) = site.known (kind_view k)
-named_of named.Unknown = site.unknown
+abbrev pub named_of : Option Kind → site.Named
+named_of (Some k) = site.known (kind_view k)
+named_of None = site.unknown
 
 abbrev pub complaint_of : Complaint → site.Complaint
 complaint_of complaint.Nodes = site.NODES
@@ -52,18 +48,36 @@ head_of s =
 abbrev pub edges_in : ℕ → List ℕ → List ℕ → List ℤ → List Edge
 edges_in k F S W = edges_from (take k F) (take k S) (take k W)
 
--- with the lent lists of first ends, second ends and weights, and the table of throw times
-abbrev pub view_of : Reading → List ℕ → List ℕ → List ℤ → List ℕ → site.Reading
-view_of s F S W T = record { place = s.place; head = head_of s; times = take s.nodes T; edges = edges_in s.count F S W }
+-- the edges that stand in its lists
+abbrev pub edges_now : Draft → List Edge
+edges_now d = edges_in d.read.count d.first.now d.second.now d.weight.now
 
-abbrev pub next_of : Next → List ℕ → List ℕ → List ℤ → List ℕ → site.Next
-next_of (next.Onward s) F S W T = site.onward (view_of s F S W T)
-next_of (next.Stopped c) F S W T = site.stopped (complaint_of c)
+-- of each node, its throw time or untimed
+abbrev pub times_now : Draft → List ℕ
+times_now d = take d.read.nodes d.times.now
 
--- the limits hold of what has been read; a record that is taken keeps them, and moves the place on
-abbrev pub Sound : Reading → Type 0
-Sound s = (s.nodes ≤ max_nodes) × (s.count ≤ max_edges)
+-- with its next record at this place
+abbrev pub view_of : (place : ℕ) → Draft → site.Reading
+view_of place d =
+    record {
+      place = place;
+      head = head_of d.read;
+      times = times_now d;
+      edges = edges_now d;
+    }
 
-abbrev pub SoundNext : Reading → Next → Type 0
-SoundNext s (next.Onward t) = (s.place < t.place) × (t.nodes ≤ max_nodes) × (t.count ≤ max_edges)
-SoundNext s (next.Stopped c) = Unit {0}
+-- a throw time, or none
+abbrev pub timed : Option ℕ → ℕ
+timed (Some t) = t
+timed None = site.untimed
+
+-- a record that is taken leaves the definition's reading, with its next record at this place; one that is refused has its complaint
+abbrev pub Takes : {A : Type 0} → site.Next → (place : ℕ) → Draft → Result A Complaint → Type 0
+Takes x place d (Ok u) = x ≡ site.onward (view_of place d)
+Takes x place d (Err c) = x ≡ site.stopped (complaint_of c)
+
+-- the lists are still those that were lent
+abbrev pub Same : Draft → Draft → Type 0
+Same d e =
+    (e.first.ghost_name ≡ d.first.ghost_name) × (e.second.ghost_name ≡ d.second.ghost_name) × (e.weight.ghost_name ≡ d.weight.ghost_name)
+    × (e.times.ghost_name ≡ d.times.ghost_name)

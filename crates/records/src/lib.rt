@@ -1,9 +1,12 @@
-// The reader of site files: document 01's records. Cursor functions read numbers at a place; `take_record` judges one
-// record; a `Reader` holds the lent file and its place; `read_site` reads a whole file, through it, into lent lists.
+// The reader of site files: document 01's records. A `Reader` holds the lent file and its place, and takes one record
+// after another into a `Draft`; `read_site` reads a whole file so, into lent lists.
 #![tactic(auto)]
 
-pub mod cursor;
-mod lists;
+pub mod complaint;
+pub mod draft;
+mod filling;
+pub mod kind;
 pub mod reader;
-pub mod records;
+mod records;
+pub mod site;
 pub mod whole;

@@ -1,66 +1,76 @@
-// A reader: the lent file and its place. Its functions take it apart and leave the work to functions of the file and the place.
-ghost use Rattle.std.specs.Prelude.{◌≡◌, ◌<◌, ◌≤◌, leb, length};
-ghost use Rattle.steps.specs.Refusals.{max_nodes, max_edges};
-ghost use Rattle.records.specs.Site.{byte_at, kind_of, moved, judge, read_from, start_at};
-ghost use Rattle.records.specs.View.{named_of, view_of, next_of, Sound};
-ghost use Rattle.records.specs.WholeView.{site_view, SoundSite};
+// A reader: the lent file and its place. It reads numbers past its place, and takes one record after another into a draft.
+ghost use Rattle.std.specs.Prelude.{◌≡◌, ◌+◌, leb, length};
+ghost use Rattle.records.specs.Site.{byte_at, word_at, long_at, signed as signed_of, kind_of};
+ghost use Rattle.records.specs.View.{named_of};
 
-use crate::cursor::{Named, ended_at, kind_at};
-use crate::records::{Next, Reading, take_at};
-use crate::whole::{Site, read_from};
+use crate::kind::Kind;
 
-#[derive(Clone, Copy)]
+#[derive(Clone, Copy, Debug, PartialEq, Eq)]
 pub struct Reader<'a> {
     pub file: &'a [u8],
-    pub at: usize,
+    pub place: usize,
 }
 
-// At the file's first record.
-pub fn open<'a>(file: &'a [u8]) -> Reader<'a>
-    ensures { (result.file ≡ file.entry) × (result.at ≡ 0) }
-{
-    Reader { file, at: 0 }
-}
+impl<'a> Reader<'a> {
+    // At the file's first record.
+    pub fn open(file: &'a [u8]) -> Reader<'a>
+        ensures { (result.file ≡ file.entry) × (result.place ≡ 0) }
+    {
+        Reader { file, place: 0 }
+    }
 
-// The kind of the record at its place.
-pub fn kind_here<'a>(r: Reader<'a>) -> Named
-    ensures { named_of result ≡ kind_of (byte_at r.entry.file.now r.entry.at) }
-{
-    kind_at(r.file, r.at)
-}
+    // The byte k past its place; a byte past the file's end reads as 0.
+    pub(crate) fn byte(&self, k: usize) -> u8
+        ensures { result ≡ byte_at self.now.file.now (self.now.place + k) }
+    {
+        let Some(i) = self.place.checked_add(k) else {
+            return 0;
+        };
+        self.file.get(i).copied().unwrap_or(0)
+    }
 
-// No record is left.
-pub fn at_end<'a>(r: Reader<'a>) -> bool
-    ensures { result ≡ leb (length r.entry.file.now) r.entry.at }
-{
-    ended_at(r.file, r.at)
-}
+    // The two bytes k past its place.
+    #[tactic(auto, using(crate::proofs::Numbers::word_read))]
+    pub fn word(&self, k: u16) -> u16
+        ensures { result ≡ word_at self.now.file.now (self.now.place + k) }
+    {
+        let k = usize::from(k);
+        u16::from_le_bytes([self.byte(k), self.byte(k + 1)])
+    }
 
-// The record at its place: what has been read so far goes in and comes back.
-pub fn take_here<'a>(
-    r: Reader<'a>,
-    s: Reading,
-    first: &mut [u16],
-    second: &mut [u16],
-    weight: &mut [i64],
-    times: &mut [u32],
-) -> Next
-    requires { (r.at < 65536) × (r.at < length r.file.now) × Sound s × (max_edges ≤ length first.old) × (max_edges ≤ length second.old) × (max_edges ≤ length weight.old) × (max_nodes ≤ length times.old) }
-    ensures { next_of result first.new second.new weight.new times.new ≡ judge r.entry.file.now (moved r.entry.at (view_of s first.old second.old weight.old times.old)) }
-{
-    take_at(r.file, r.at, s, first, second, weight, times)
-}
+    // The four bytes k past its place.
+    #[tactic(auto, using(crate::proofs::Numbers::long_read))]
+    pub fn long(&self, k: u8) -> u32
+        ensures { result ≡ long_at self.now.file.now (self.now.place + k) }
+    {
+        let k = usize::from(k);
+        u32::from_le_bytes([
+            self.byte(k),
+            self.byte(k + 1),
+            self.byte(k + 2),
+            self.byte(k + 3),
+        ])
+    }
 
-// The records from its place on.
-pub fn read_on<'a>(
-    r: Reader<'a>,
-    first: &mut [u16],
-    second: &mut [u16],
-    weight: &mut [i64],
-    times: &mut [u32],
-) -> Site
-    requires { (length r.file.now ≤ 65536) × (max_edges ≤ length first.old) × (max_edges ≤ length second.old) × (max_edges ≤ length weight.old) × (max_nodes ≤ length times.old) }
-    ensures { (site_view result first.new second.new weight.new ≡ read_from (length r.entry.file.now) r.entry.file.now (start_at r.entry.at)) × SoundSite result }
-{
-    read_from(r.file, r.at, first, second, weight, times)
+    // The four bytes k past its place, as a signed number.
+    #[tactic(auto, using(crate::proofs::Numbers::signed_read))]
+    pub fn signed(&self, k: u8) -> i64
+        ensures { result ≡ signed_of (long_at self.now.file.now (self.now.place + k)) }
+    {
+        i64::from(self.long(k).cast_signed())
+    }
+
+    // The kind of the record at its place.
+    pub fn kind(&self) -> Option<Kind>
+        ensures { named_of result ≡ kind_of (byte_at self.now.file.now self.now.place) }
+    {
+        Kind::of(self.byte(0))
+    }
+
+    // No record is left.
+    pub fn at_end(&self) -> bool
+        ensures { result ≡ leb (length self.now.file.now) self.now.place }
+    {
+        self.file.len() <= self.place
+    }
 }

@@ -1,23 +1,28 @@
-// What the replay programs share: numbers read from a reader, lists of them, and a number written. A read that fails counts as the
-// end of the input, and a write that fails is passed over: what is then missing shows in what a program prints.
+// What the replay programs share: numbers that stand in their input, and lines on what differs. A read that fails counts as the end of
+// the input, and all bytes past its end are 0.
 #![tactic(auto)]
 
-ghost use Rattle.std.specs.Prelude.{◌≡◌, ◌+◌, ◌*◌, ◌<◌, ◌≤◌, length};
+ghost use Rattle.replays.specs.Input.{Gives, Reads, amount_of, length_of};
+ghost use Rattle.replays.specs.Told.{told};
+ghost use Rattle.std.specs.Int.{from_le_bytes, w16, w32};
+ghost use Rattle.std.specs.Io.KnownBytes.{Appends, Consumes};
+ghost use Rattle.std.specs.Prelude.{◌≡◌, ◌+◌, ◌≤◌, OnOk, length, take, drop};
 
+use std::io;
 use std::io::{Read, Write};
 
 // The most entries of a list.
 pub const ENTRIES: usize = 2112;
 
 // Reads until the buffer is full, the input ends or a read fails: how many bytes came.
+#[tactic(auto, using(crate::proofs::Reading::takes_on))]
 pub fn read_full<R: Read>(from: &mut R, buffer: &mut [u8]) -> usize
-    ensures { result ≤ length buffer.new }
+    ensures count { result ≤ length buffer.new }
+    ensures bytes { Consumes (R.remaining from.old) (R.remaining from.new) (take result buffer.new) }
 {
     let mut done = 0;
     while done < buffer.len() {
-        let Ok(more) = from.read(&mut buffer[done..]) else {
-            break;
-        };
+        let more = read_on(from, buffer, done);
         if more == 0 {
             break;
         }
@@ -26,81 +31,67 @@ pub fn read_full<R: Read>(from: &mut R, buffer: &mut [u8]) -> usize
     done
 }
 
-fn wide(b: u8) -> u64
-    ensures { result < 256 }
+// One read, to behind what is there: how many bytes came. None come where it fails.
+fn read_on<R: Read>(from: &mut R, buffer: &mut [u8], done: usize) -> usize
+    requires { done ≤ length buffer.old }
+    ensures count { done + result ≤ length buffer.new }
+    ensures kept { take done buffer.new ≡ take done buffer.old }
+    ensures bytes { Consumes (R.remaining from.old) (R.remaining from.new) (take result (drop done buffer.new)) }
 {
-    b as u64
+    from.read(&mut buffer[done..]).unwrap_or(0)
 }
 
-// The number of two bytes, the low one first.
-pub fn pair(a: u8, b: u8) -> u16
-    ensures { result ≡ a + 256 * b }
+// The bytes that come next. What a reader may have left behind its last byte is cleared.
+pub fn bytes<R: Read, const N: usize>(from: &mut R) -> [u8; N]
+    ensures { Gives (R.remaining from.old) (R.remaining from.new) result }
 {
-    a as u16 + 256 * (b as u16)
+    let mut all = [0; N];
+    let list = &mut all[..];
+    let done = read_full(from, list);
+    list[done..].fill(0);
+    all
 }
 
-// A number of two bytes, the low one first. Past the end of the input it is 0.
-pub fn number<R: Read>(from: &mut R) -> u16 {
-    let mut b = [0u8; 2];
-    read_full(from, &mut b);
-    pair(b[0], b[1])
+// A number of two bytes, the low one first. The generic reader is `bytes`; std has its conversions width by width.
+pub fn number<R: Read>(from: &mut R) -> u16
+    ensures { Reads (R.remaining from.old) (R.remaining from.new) 2 (from_le_bytes w16) result }
+{
+    u16::from_le_bytes(bytes(from))
 }
 
-fn joined(b0: u8, b1: u8, b2: u8, b3: u8) -> u64
-    ensures { result < 4294967296 }
+// A number of four bytes, the low one first.
+pub fn long_number<R: Read>(from: &mut R) -> u32
+    ensures { Reads (R.remaining from.old) (R.remaining from.new) 4 (from_le_bytes w32) result }
 {
-    wide(b0) + 256 * wide(b1) + 65536 * wide(b2) + 16777216 * wide(b3)
-}
-
-fn with_sign(size: u64, down: bool) -> i64
-    requires { size < 9223372036854775808 }
-{
-    let z = size as i64;
-    if down {
-        return -z;
-    }
-    z
+    u32::from_le_bytes(bytes(from))
 }
 
 // A signed amount of eight bytes: its distance from zero, and in the highest bit whether it lies below.
-pub fn amount<R: Read>(from: &mut R) -> i64 {
-    let mut b = [0u8; 8];
-    read_full(from, &mut b);
-    let low = joined(b[0], b[1], b[2], b[3]);
-    let high = joined(b[4], b[5], b[6], b[7]);
-    let size = high % 2147483648 * 4294967296 + low;
-    with_sign(size, high >= 2147483648)
+pub fn amount<R: Read>(from: &mut R) -> i64
+    ensures { Reads (R.remaining from.old) (R.remaining from.new) 8 amount_of result }
+{
+    let x = u64::from_le_bytes(bytes(from));
+    let size = (x % 9223372036854775808) as i64;
+    if x < 9223372036854775808 { size } else { -size }
 }
 
 // How long a list is.
 pub fn length<R: Read>(from: &mut R) -> usize
-    ensures { result ≤ 2112 }
+    ensures most { result ≤ 2112 }
+    ensures value { Reads (R.remaining from.old) (R.remaining from.new) 2 length_of result }
 {
-    let k = number(from) as usize;
-    if k < ENTRIES { k } else { ENTRIES }
+    usize::from(number(from)).min(ENTRIES)
 }
 
-// The first k entries are read.
-pub fn numbers<R: Read>(from: &mut R, list: &mut [u16; 2112], k: usize)
-    requires { (k ≤ 2112) × (length list.old ≡ 2112) }
-    ensures { length list.new ≡ 2112 }
+// Writes what differs in the record at a place: a line for each, with its number, from 1.
+#[tactic(auto, using(crate::proofs::Telling::tells))]
+pub fn tell<W: Write>(out: &mut W, place: u32, same: &[bool]) -> io::Result<()>
+    ensures { OnOk result (Appends (W.contents out.old) (W.contents out.new) (told place 1 same.now)) }
 {
-    for i in 0..k {
-        list[i] = number(from);
+    for (k, same) in same.iter().enumerate() {
+        if !same {
+            writeln!(out, "{place} {}", k + 1)?;
+        }
     }
-}
-
-pub fn amounts<R: Read>(from: &mut R, list: &mut [i64; 2112], k: usize)
-    requires { (k ≤ 2112) × (length list.old ≡ 2112) }
-    ensures { length list.new ≡ 2112 }
-{
-    for i in 0..k {
-        list[i] = amount(from);
-    }
-}
-
-// A number, and the byte after it.
-pub fn say<W: Write>(out: &mut W, x: u64, end: u8) {
-    let _ = write!(out, "{x}");
-    let _ = out.write_all(&[end]);
+    Ok(())
 }

@@ -1,9 +1,9 @@
-// The state of a search, by value, its four steps, and a run of them.
+// The search by value: its four steps, each of which takes it and gives it back, and a run of them.
 #![tactic(auto)]
 
-mod closing;
-mod opening;
+pub mod adjusting;
 pub mod running;
-mod searching;
-mod state;
-mod stepping;
+pub mod scratch;
+pub mod search;
+pub mod taking;
+mod visits;

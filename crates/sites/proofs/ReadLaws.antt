@@ -1,13 +1,13 @@
 -- What the reader answered, with what stands at the front of its lists, is the definition's outcome; and its text is the file's.
-use Rattle.std.specs.Prelude.{if◌then◌else◌}
+use Rattle.std.specs.Prelude.{if◌then◌else◌, Result, Ok, Err}
 use mathlib.Core.Path.{◌≡◌, refl, sym, ap, subst, ◌∙◌}
 use mathlib.Core.Bool.{Bool, true, false}
 use mathlib.Core.List.{List, [], ◌∷◌, ◌++◌, map}
-use Prim.Native.Nat.{ℕ, suc, ◌+◌, ◌-◌, ◌≤◌, min}
+use Prim.Native.Nat.{ℕ, suc, ◌+◌, ◌-◌, ◌≤◌, min, zero-le}
 use native.Mathlib.Omega.{arith}
 use lib.Dec.{T, eqb}
 use lib.IntN.{ℤ, pos}
-use lib.ListN.{length, take, drop, replicate, length-append, length-replicate, length-take, take-append-drop}
+use lib.ListN.{length, take, drop, replicate, length-replicate, length-take, take-append-drop}
 use lib.Seq.{take-append_seam}
 use borrow.Author.Tests.{eq-eqb}
 use Rattle.laws.proofs.Windows.{drop_replicate}
@@ -16,16 +16,15 @@ use Rattle.certificate.specs.Lists.{same_length}
 use Rattle.records.specs.Site as site
 use Rattle.records.specs.View.{complaint_of}
 use Rattle.records.specs.WholeView.{padded, told_by, ReadAs}
-use Rattle.records.specs.declared.records.Complaint.{Complaint}
-use Rattle.records.specs.declared.whole.Head.{Head}
-use Rattle.records.specs.declared.whole.Site.{Site}
-use Rattle.records.specs.declared.whole.Site.TheVariants as answer
+use Rattle.records.specs.declared.site.Head.{Head}
+use Rattle.records.specs.declared.site.Refused.{Refused}
 use Rattle.printed.specs.Answer.{printed_complaint}
+use Rattle.printed.specs.Page.{Page, page, with_text}
 use Rattle.printed.specs.View.{Put}
+use Rattle.printed.proofs.Texts.{text_puts}
 use Rattle.sites.specs.Answered.{plan_of_site, answered_as, answered}
 use Rattle.plan.specs.View.{plan_lists}
 use Rattle.sites.specs.View.{plan_text}
-use Rattle.sites.proofs.Limits.{FewNodes, few_site}
 
 -- ---- edges apart and together
 
@@ -46,12 +45,9 @@ together : (E : List Edge) → edges_from (firsts E) (seconds E) (weights E) ≡
 together [] = refl
 together (x ∷ xs) = ap {B = List Edge} (λ r. x ∷ r) (together xs)
 
--- the front of a padded list, and how long that is
+-- the front of a padded list
 front : {A : Type 0} (v : A) (xs : List A) (size : ℕ) → take (length xs) (padded v xs size) ≡ xs
 front v xs size = take-append_seam xs (replicate (size - length xs) v)
-
-fits : {A : Type 0} (v : A) (xs : List A) (size : ℕ) {l : List A} → l ≡ padded v xs size → length l ≡ size → length xs ≤ size
-fits v xs size e h = omega (arith, ap length e, length-append xs (replicate (size - length xs) v), length-replicate (size - length xs) v)
 
 -- ---- an accepted file's text
 
@@ -129,17 +125,9 @@ refused_text c place (site.refused d p) e =
     rw (q, r)
 
 module _ (n : ℕ) (flag : Bool) (budget m : ℕ) where
-  few_told : (o : site.Outcome) → site.accepted n flag budget m ≡ site.told o → FewNodes o → n ≤ 64
-  few_told (site.read s) e h = omega (arith, ap nodes_in e, h)
-  few_told (site.refused c place) e h = different e tt (λ t. t)
-
   -- the front of a list that holds one part of each edge
   part : {A : Type 0} (f : Edge → A) (v : A) (size : ℕ) {l : List A} (s : site.Site) → site.accepted n flag budget m ≡ site.told (site.read s) → l ≡ padded v (map f s.edges) size → take m l ≡ map f s.edges
   part f v size s e h = rw (ap edges_in e ∙ sym (length_map f s.edges), h) (front v (map f s.edges) size)
-
-  part_fits : {A : Type 0} (f : Edge → A) (v : A) {l : List A} (o : site.Outcome) → site.accepted n flag budget m ≡ site.told o → l ≡ padded v (map f (site.edges_of o)) (length l) → m ≤ length l
-  part_fits f v {l} (site.read s) e h = omega (arith, ap edges_in e, length_map f s.edges, fits v (map f s.edges) (length l) h refl)
-  part_fits f v (site.refused c place) e h = different e tt (λ t. t)
 
   accepted_text : (o : site.Outcome) → site.accepted n flag budget m ≡ site.told o → {F S : List ℕ} {W : List ℤ} (x y z : ℕ)
       → F ≡ padded 0 (firsts (site.edges_of o)) x → S ≡ padded 0 (seconds (site.edges_of o)) y → W ≡ padded (pos 0) (weights (site.edges_of o)) z
@@ -154,19 +142,16 @@ module _ (file F S : List ℕ) (W : List ℤ) (f : length F ≡ 2048) (g : lengt
   whole_room : min (length F) (min (length S) (length W)) ≡ 2048
   whole_room = rw (f, g, h)
 
-  module _ (r : Site) (F' S' : List ℕ) (W' : List ℤ) (a : ReadAs file F S W r F' S' W') where
+  module _ (r : Result Head Refused) (F' S' : List ℕ) (W' : List ℤ) (a : ReadAs file F S W r F' S' W') where
     outcome : told_by r ≡ site.told (site.read_site 2048 file)
     outcome = rw whole_room at a.answers
 
-    pub complained : (c : Complaint) (place : ℕ) → r ≡ answer.Refused c place → printed_complaint (complaint_of c) place ≡ answered file
-    complained c place e = refused_text (complaint_of c) place (site.read_site 2048 file) (sym (ap told_by e) ∙ outcome)
+    pub complained : (x : Refused) → r ≡ Err x → printed_complaint (complaint_of x.what) x.place ≡ answered file
+    complained x e = refused_text (complaint_of x.what) x.place (site.read_site 2048 file) (sym (ap told_by e) ∙ outcome)
 
-    module _ (x : Head) (e : r ≡ answer.Read x) where
+    module _ (x : Head) (e : r ≡ Ok x) where
       accepted : site.accepted x.nodes x.flag x.budget x.edges ≡ site.told (site.read_site 2048 file)
       accepted = sym (ap told_by e) ∙ outcome
-
-      pub few_nodes : x.nodes ≤ 64
-      few_nodes = few_told x.nodes x.flag x.budget x.edges (site.read_site 2048 file) accepted (few_site 2048 file)
 
       first_part : F' ≡ padded 0 (firsts (site.edges_of (site.read_site 2048 file))) (length F)
       first_part = rw whole_room at a.firsts
@@ -177,23 +162,16 @@ module _ (file F S : List ℕ) (W : List ℤ) (f : length F ≡ 2048) (g : lengt
       weight_part : W' ≡ padded (pos 0) (weights (site.edges_of (site.read_site 2048 file))) (length W)
       weight_part = rw whole_room at a.weights
 
-      pub few_firsts : length F' ≡ length F → x.edges ≤ length F'
-      few_firsts l = part_fits x.nodes x.flag x.budget x.edges (λ (y : Edge). y.first) 0 {l = F'} (site.read_site 2048 file) accepted (rw l first_part)
-
-      pub few_seconds : length S' ≡ length S → x.edges ≤ length S'
-      few_seconds l = part_fits x.nodes x.flag x.budget x.edges (λ (y : Edge). y.second) 0 {l = S'} (site.read_site 2048 file) accepted (rw l second_part)
-
-      pub few_weights : length W' ≡ length W → x.edges ≤ length W'
-      few_weights l = part_fits x.nodes x.flag x.budget x.edges (λ (y : Edge). y.weight) (pos 0) {l = W'} (site.read_site 2048 file) accepted (rw l weight_part)
-
       pub planned : plan_text x.nodes (take x.edges F') (take x.edges S') (take x.edges W') x.flag x.budget ≡ answered file
       planned = accepted_text x.nodes x.flag x.budget x.edges (site.read_site 2048 file) accepted (length F) (length S) (length W) first_part second_part weight_part
 
+pub ruleset answers = (complained, planned)
+
 -- ---- a buffer that held only 0
 
-pub put_all : (L : ℕ) {buffer after text : List ℕ} {end : ℕ} → buffer ≡ replicate L 0 → Put buffer 0 text after end
+put_by : (L : ℕ) {buffer after text : List ℕ} {end : ℕ} → buffer ≡ replicate L 0 → Put buffer 0 text after end
     → (after ≡ padded 0 (take L text) L) × (end ≡ length (take L text))
-put_all L {buffer} {after} {text} {end} e p =
+put_by L {buffer} {after} {text} {end} e p =
     let l : length buffer ≡ L = ap length e ∙ length-replicate L 0 in
     let k : end ≡ length (take L text) = p.counts ∙ ap (λ (i : ℕ). length (take i text)) l in
     let m : end ≤ L = omega (arith, k, length-take L text) in
@@ -202,3 +180,7 @@ put_all L {buffer} {after} {text} {end} e p =
     let s : drop {A = ℕ} end after ≡ replicate (L - length (take L text)) 0 = p.rest ∙ ap (λ (x : List ℕ). drop end x) e ∙ r ∙ ap (λ (i : ℕ). replicate (L - i) 0) k in
     let t : take end after ≡ take L text = p.holds ∙ ap (λ (i : ℕ). take i text) l in
     (sym (take-append-drop end after) ∙ ap (λ (x : List ℕ). x ++ drop end after) t ∙ ap (λ (x : List ℕ). take L text ++ x) s, k)
+
+pub put_all : (L : ℕ) {after : List ℕ} (text : List ℕ) {end : ℕ} → page after end ≡ with_text text (page (replicate L 0) 0) → (after ≡ padded 0 (take L text) L) × (end ≡ length (take L text))
+put_all L {after} text {end} e =
+    put_by L refl (subst (λ (q : Page). Put (replicate L 0) 0 text q.bytes q.len) (sym e) (text_puts text (page (replicate L 0) 0) zero-le))

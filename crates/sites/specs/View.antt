@@ -1,9 +1,11 @@
 -- What the functions below `plan_site` print and may ask for.
 use Rattle.std.specs.Prelude.{Bool, List, ℕ, ◌*◌, ℤ}
+use Rattle.matching.specs.Graph.{Graph}
 use Rattle.certificate.specs.Lists.{lent, room}
 use Rattle.numbers.specs.Near.{Near}
 use Rattle.printed.specs.Answer.{printed}
 use Rattle.plan.specs.View.{plan_lists}
+use Rattle.sites.specs.declared.site.Site.{Site}
 use Rattle.plan.specs.declared.answers.Answer as answer
 use Rattle.plan.specs.declared.answers.Answer.TheVariants as answers
 
@@ -18,3 +20,9 @@ Weighs (answers.Refused c) weight = Unit {0}
 unfoldable pub plan_text : (n : ℕ) → (first second : List ℕ) → (weight : List ℤ) → (flag : Bool) → (budget : ℕ) → List ℕ
 plan_text n first second weight flag budget =
     printed (lent n first second weight) (plan_lists (room n (2 * n) (2 * n)) n first second weight flag budget)
+
+abbrev pub graph_in : Site → Graph
+graph_in s = lent s.n s.first.now s.second.now s.weight.now
+
+abbrev pub site_text : Site → List ℕ
+site_text s = plan_text s.n s.first.now s.second.now s.weight.now s.flag s.budget

@@ -1,10 +1,3 @@
--- The laws of the parts of the four steps.
+-- Laws of these routines.
+pub mod Looks
 pub mod Amounts
-pub mod Tops
-pub mod Ranges
-pub mod DeltaLaws
-pub mod ShiftLaws
-pub mod FollowLaws
-pub mod VisitLaws
-pub mod LookLaws
-pub mod Forgets

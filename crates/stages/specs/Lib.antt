@@ -1,5 +1,4 @@
--- What the lists and answers stand for in the parts of the four steps.
-pub mod View
-pub mod Forgotten
-pub mod Visit
+-- What the answers of these routines stand for.
+pub mod Stage
+pub mod Deltas
 pub mod Look

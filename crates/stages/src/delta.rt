@@ -1,330 +1,238 @@
-// The amount of a dual adjustment: the least of four kinds, types 1 to 4 as in the source.
-ghost use Rattle.std.specs.Prelude.{◌≡◌, List, ◌*◌, ◌<◌, ◌≤◌, nat_abs, length, take};
-ghost use Rattle.laws.specs.Integers.{is_even, half as half_of};
-ghost use Rattle.laws.specs.Run.{ok, fault, and_then, for_range};
-ghost use Rattle.matching.specs.Graph.{Edge as EdgeOf, Graph, graph_of};
-ghost use Rattle.numbers.specs.Edges.{ends_of, weights_of};
+// The amount of a dual adjustment: the least of four types, numbered as in the source.
+ghost use Rattle.std.specs.Prelude.{◌≡◌, ◌≤◌, ◌*◌, nat_abs};
+ghost use Rattle.std.specs.Result.{IfOk};
+ghost use Rattle.laws.specs.Run.{for_range};
+ghost use Rattle.numbers.specs.Answers.{Answers};
 ghost use Rattle.numbers.specs.Near.{Near};
-ghost use Rattle.edges.specs.View.{amount_of};
-ghost use Rattle.steps.specs.State.{State};
-ghost use Rattle.steps.specs.Stores.{with_bases, with_parents, with_duals};
-ghost use Rattle.steps.specs.Adjust.{least_dual, delta1, offer2, delta2_at, offer3, delta3_at, is_outermost, delta4_at, delta_last, choose_delta};
-ghost use Rattle.stages.specs.View.{delta_of, offered, Small, SlackFits, GroupFits, GroupsFit, reached, joined, grouped, seen};
+ghost use Rattle.steps.specs.State.{Progress};
+ghost use Rattle.steps.specs.Adjust.{less_than as less_than_of, least_dual, delta1, offer2, delta2_at, offer3, delta3_at, delta4_at, delta_last as delta_last_of, choose_delta};
+ghost use Rattle.state.specs.Parts.{state_of, sized, size_of};
+ghost use Rattle.stages.specs.Deltas.{least_of, AnswersDelta, AnswersLeast, Small, SmallOr};
 
-use crate::top_label;
-use edges::{Amount, slack};
-use numbers::amounts::{greater, lesser};
-use numbers::{Edge, Got, GotEdge, Group, MISSING, Node, edge_in};
+use edges::graph::Graph;
+use numbers::faults::{Fault, must};
+use numbers::{Edge, Group, MISSING, Node};
+use state::lists::Lists;
 
-// The least amount found so far, its kind (0 where there is none, 1 to 4 as in the source, 5 for a fault), and the edge (kinds 2
-// and 3) or group (kind 4) that gave it. Numbers, so that it stays in registers.
-#[derive(Clone, Copy)]
-pub struct Delta {
-    pub kind: u16,
-    pub amount: i64,
-    pub place: u16,
+// An amount by its type, with the edge or group that gave it.
+#[derive(Clone, Copy, Debug, PartialEq, Eq)]
+pub enum Delta {
+    One(i64),
+    Two(i64, Edge),
+    Three(i64, Edge),
+    Four(i64, Group),
 }
 
-fn failed() -> Delta
-    ensures { (delta_of result ≡ fault) × Small result }
+// Whether d is below the least amount so far.
+fn less_than(d: i64, best: Option<Delta>) -> bool
+    ensures { result ≡ less_than_of d (least_of best) }
 {
-    Delta {
-        kind: 5,
-        amount: 0,
-        place: 0,
+    match best {
+        None => true,
+        Some(Delta::One(a)) => d < a,
+        Some(Delta::Two(a, _)) => d < a,
+        Some(Delta::Three(a, _)) => d < a,
+        Some(Delta::Four(a, _)) => d < a,
     }
 }
 
-// A smaller amount, or the first, takes the place; a fault stays.
-fn offer(best: Delta, kind: u16, amount: i64, place: u16) -> Delta
-    requires { Small best × (nat_abs amount ≤ 18014398509481984) }
-    ensures { (delta_of result ≡ and_then (delta_of best) (offered kind amount place)) × Small result }
+// The least of a list that is not empty.
+#[tactic(auto, unfolding(steps::specs::Adjust::least_dual))]
+fn least(duals: &[i64]) -> Result<i64, Fault>
+    requires { Near 4503599627370496 duals.now }
+    ensures said { Answers (least_dual duals.now) result }
+    ensures near { IfOk result (λ d. nat_abs d ≤ 4503599627370496) }
 {
-    if best.kind == 0 {
-        return Delta {
-            kind,
-            amount,
-            place,
-        };
-    }
-    if best.kind > 4 {
-        return best;
-    }
-    if amount < best.amount {
-        return Delta {
-            kind,
-            amount,
-            place,
-        };
-    }
-    best
-}
-
-fn is_even(k: i64) -> bool
-    ensures { result ≡ is_even k }
-{
-    k % 2 == 0
-}
-
-fn half(k: i64) -> i64
-    ensures { result ≡ half_of k }
-{
-    k / 2
-}
-
-// The least of the first n duals.
-fn least_dual(duals: &[i64], n: u16) -> Amount
-    requires { (n ≤ length duals.now) × (Near 4503599627370496 duals.now) }
-    ensures { amount_of result ≡ least_dual (take n duals.now) }
-{
-    if n == 0 {
-        return Amount::Out;
+    if duals.is_empty() {
+        return Err(Fault);
     }
     let mut d = duals[0];
-    for v in 1..n {
-        d = lesser(d, duals[v as usize]);
+    for &x in duals {
+        d = d.min(x);
     }
-    Amount::Of(d)
+    Ok(d)
 }
 
 // Type 1, without the flag: the least node dual.
-fn delta_one(duals: &[i64], n: u16, flag: bool) -> Delta
-    requires { (n ≤ length duals.now) × (Near 4503599627370496 duals.now) }
-    ensures { ((edges : List EdgeOf) (s : State) → delta_of result ≡ delta1 (graph_of n edges) flag (with_duals duals.now s)) × Small result }
+#[tactic(auto, unfolding(steps::specs::Adjust::delta1))]
+fn delta_one(g: &Graph, lists: &Lists, flag: bool) -> Result<Option<Delta>, Fault>
+    requires { sized lists.now ≡ size_of g.now }
+    ensures said { (at : Progress) → AnswersLeast (delta1 g.now flag (state_of lists.now at)) result }
+    ensures small { IfOk result SmallOr }
 {
     if flag {
-        return Delta {
-            kind: 0,
-            amount: 0,
-            place: 0,
-        };
+        return Ok(None);
     }
-    let Amount::Of(d) = least_dual(duals, n) else {
-        return failed();
-    };
-    Delta {
-        kind: 1,
-        amount: d,
-        place: 0,
-    }
+    let d = least(lists.node_duals())?;
+    Ok(Some(Delta::One(d)))
 }
 
-fn offer_two(ends: &[u16], weights: &[i64], duals: &[i64], e: Edge, best: Delta) -> Delta
-    requires { SlackFits ends.now weights.now duals.now × Small best }
-    ensures { ((G : Graph) → ends_of G.edges ≡ ends.now → weights_of G.edges ≡ weights.now → (s : State) → delta_of result ≡ and_then (delta_of best) (offer2 G (with_duals duals.now s) e.0)) × Small result }
+#[tactic(auto, unfolding(steps::specs::Adjust::offer2))]
+fn offer_two(g: &Graph, lists: &Lists, e: Edge, best: Option<Delta>) -> Result<Option<Delta>, Fault>
+    requires { SmallOr best }
+    ensures said { (at : Progress) → AnswersLeast (offer2 g.now (state_of lists.now at) e.0 (least_of best)) result }
+    ensures small { IfOk result SmallOr }
 {
-    let Amount::Of(d) = slack(ends, weights, duals, e) else {
-        return failed();
-    };
-    offer(best, 2, d, e.number())
-}
-
-// Half the slack of an edge between two label-1 groups, which is even.
-fn offer_three(ends: &[u16], weights: &[i64], duals: &[i64], e: Edge, best: Delta) -> Delta
-    requires { SlackFits ends.now weights.now duals.now × Small best }
-    ensures { ((G : Graph) → ends_of G.edges ≡ ends.now → weights_of G.edges ≡ weights.now → (s : State) → delta_of result ≡ and_then (delta_of best) (offer3 G (with_duals duals.now s) e.0)) × Small result }
-{
-    let Amount::Of(k) = slack(ends, weights, duals, e) else {
-        return failed();
-    };
-    if !is_even(k) {
-        return failed();
+    let d = lists.slack(g, e)?;
+    if less_than(d, best) {
+        return Ok(Some(Delta::Two(d, e)));
     }
-    offer(best, 3, half(k), e.number())
+    Ok(best)
 }
 
 // Type 2: the edge from a label-1 group to node v, where v is free.
+#[tactic(auto, unfolding(steps::specs::Adjust::delta2_at))]
 fn delta_two_at(
-    ends: &[u16],
-    weights: &[i64],
-    duals: &[i64],
-    tops: &[u16],
-    labels: &[u16],
-    best: &[u16],
+    g: &Graph,
+    lists: &Lists,
     v: Node,
-    from: Delta,
-) -> Delta
-    requires { SlackFits ends.now weights.now duals.now × Small from }
-    ensures { ((G : Graph) → ends_of G.edges ≡ ends.now → weights_of G.edges ≡ weights.now → (s : State) → delta_of result ≡ and_then (delta_of from) (delta2_at G (reached tops.now labels.now best.now duals.now s) v.0)) × Small result }
+    best: Option<Delta>,
+) -> Result<Option<Delta>, Fault>
+    requires { SmallOr best }
+    ensures said { (at : Progress) → AnswersLeast (delta2_at g.now (state_of lists.now at) v.0 (least_of best)) result }
+    ensures small { IfOk result SmallOr }
 {
-    let Got::At(l) = top_label(tops, labels, v) else {
-        return failed();
-    };
-    let GotEdge::At(e) = edge_in(best, v.number()) else {
-        return failed();
-    };
-    if l != 0 {
-        return from;
+    let t = lists.top(v)?;
+    let l = lists.label(t.0)?;
+    let e = lists.best(v.0)?;
+    if l == 0 && e.0 != MISSING {
+        let d = offer_two(g, lists, e, best)?;
+        return Ok(d);
     }
-    if e.is_missing() {
-        return from;
+    Ok(best)
+}
+
+// Half the slack, which is even.
+#[tactic(auto, unfolding(steps::specs::Adjust::offer3))]
+fn offer_three(
+    g: &Graph,
+    lists: &Lists,
+    e: Edge,
+    best: Option<Delta>,
+) -> Result<Option<Delta>, Fault>
+    requires { SmallOr best }
+    ensures said { (at : Progress) → AnswersLeast (offer3 g.now (state_of lists.now at) e.0 (least_of best)) result }
+    ensures small { IfOk result SmallOr }
+{
+    let k = lists.slack(g, e)?;
+    must(k.unsigned_abs() % 2 == 0)?;
+    let d = k / 2;
+    if less_than(d, best) {
+        return Ok(Some(Delta::Three(d, e)));
     }
-    offer_two(ends, weights, duals, e, from)
+    Ok(best)
 }
 
 // Type 3: the edge between two label-1 groups, of which b is one.
+#[tactic(auto, unfolding(steps::specs::Adjust::delta3_at))]
 fn delta_three_at(
-    ends: &[u16],
-    weights: &[i64],
-    duals: &[i64],
-    parents: &[u16],
-    labels: &[u16],
-    best: &[u16],
+    g: &Graph,
+    lists: &Lists,
     b: Group,
-    from: Delta,
-) -> Delta
-    requires { SlackFits ends.now weights.now duals.now × Small from × (b.0 < length parents.now) × (b.0 < length labels.now) }
-    ensures { ((G : Graph) → ends_of G.edges ≡ ends.now → weights_of G.edges ≡ weights.now → (s : State) → delta_of result ≡ and_then (delta_of from) (delta3_at G (joined parents.now labels.now best.now duals.now s) b.0)) × Small result }
+    best: Option<Delta>,
+) -> Result<Option<Delta>, Fault>
+    requires { SmallOr best }
+    ensures said { (at : Progress) → AnswersLeast (delta3_at g.now (state_of lists.now at) b.0 (least_of best)) result }
+    ensures small { IfOk result SmallOr }
 {
-    let i = b.number();
-    let GotEdge::At(e) = edge_in(best, i) else {
-        return failed();
-    };
-    if parents[i as usize] != MISSING {
-        return from;
+    let p = lists.parent(b)?;
+    let l = lists.label(b.0)?;
+    let e = lists.best(b.0)?;
+    if p.0 == MISSING && l == 1 && e.0 != MISSING {
+        let d = offer_three(g, lists, e, best)?;
+        return Ok(d);
     }
-    if labels[i as usize] != 1 {
-        return from;
-    }
-    if e.is_missing() {
-        return from;
-    }
-    offer_three(ends, weights, duals, e, from)
-}
-
-// b is a group in use, and outermost.
-pub fn is_outermost(bases: &[u16], parents: &[u16], b: Group) -> bool
-    requires { (b.0 < length bases.now) × (b.0 < length parents.now) }
-    ensures { (s : State) → is_outermost (with_parents parents.now (with_bases bases.now s)) b.0 ≡ ok result }
-{
-    let i = b.number();
-    if bases[i as usize] == MISSING {
-        return false;
-    }
-    parents[i as usize] == MISSING
+    Ok(best)
 }
 
 // Type 4: the dual of an outermost label-2 group.
-fn delta_four_at(
-    duals: &[i64],
-    bases: &[u16],
-    parents: &[u16],
-    labels: &[u16],
-    b: Group,
-    from: Delta,
-) -> Delta
-    requires { Near 4503599627370496 duals.now × Small from × GroupFits b.0 bases.now parents.now labels.now duals.now }
-    ensures { ((s : State) → delta_of result ≡ and_then (delta_of from) (delta4_at (grouped bases.now parents.now labels.now duals.now s) b.0)) × Small result }
+#[tactic(auto, unfolding(steps::specs::Adjust::delta4_at))]
+fn delta_four_at(lists: &Lists, b: Group, best: Option<Delta>) -> Result<Option<Delta>, Fault>
+    requires { SmallOr best }
+    ensures said { (at : Progress) → AnswersLeast (delta4_at (state_of lists.now at) b.0 (least_of best)) result }
+    ensures small { IfOk result SmallOr }
 {
-    let i = b.number();
-    if !is_outermost(bases, parents, b) {
-        return from;
+    if !lists.is_outermost(b)? {
+        return Ok(best);
     }
-    if labels[i as usize] != 2 {
-        return from;
+    let l = lists.label(b.0)?;
+    let d = lists.dual(b.0)?;
+    if l == 2 && less_than(d, best) {
+        return Ok(Some(Delta::Four(d, b)));
     }
-    offer(from, 4, duals[i as usize], i)
+    Ok(best)
 }
 
-// Type 2 over all nodes.
-fn delta_two(
-    ends: &[u16],
-    weights: &[i64],
-    duals: &[i64],
-    tops: &[u16],
-    labels: &[u16],
-    best: &[u16],
-    n: u16,
-    from: Delta,
-) -> Delta
-    requires { SlackFits ends.now weights.now duals.now × Small from }
-    ensures { ((G : Graph) → ends_of G.edges ≡ ends.now → weights_of G.edges ≡ weights.now → (s : State) → delta_of result ≡ and_then (delta_of from) (for_range (delta2_at G (reached tops.now labels.now best.now duals.now s)) 0 n)) × Small result }
+// Type 2 over all nodes. The types stand apart, as in the definition: each has its own range and its own test.
+#[tactic(auto, using(laws::proofs::Ranges::ranges))]
+fn delta_two(g: &Graph, lists: &Lists, best: Option<Delta>) -> Result<Option<Delta>, Fault>
+    requires { SmallOr best }
+    ensures said { (at : Progress) → AnswersLeast (for_range (delta2_at g.now (state_of lists.now at)) 0 g.now.nodes (least_of best)) result }
+    ensures small { IfOk result SmallOr }
 {
-    let mut d = from;
-    for v in 0..n {
-        d = delta_two_at(ends, weights, duals, tops, labels, best, Node(v), d);
+    let mut d = best;
+    for v in 0..g.nodes() {
+        d = delta_two_at(g, lists, Node(v), d)?;
     }
-    d
+    Ok(d)
 }
 
 // Type 3 over all nodes and groups.
-fn delta_three(
-    ends: &[u16],
-    weights: &[i64],
-    duals: &[i64],
-    parents: &[u16],
-    labels: &[u16],
-    best: &[u16],
-    n: u16,
-    from: Delta,
-) -> Delta
-    requires { SlackFits ends.now weights.now duals.now × Small from × (n ≤ 512) × (length parents.now ≡ 2 * n) × (length labels.now ≡ 2 * n) }
-    ensures { ((G : Graph) → ends_of G.edges ≡ ends.now → weights_of G.edges ≡ weights.now → (s : State) → delta_of result ≡ and_then (delta_of from) (for_range (delta3_at G (joined parents.now labels.now best.now duals.now s)) 0 (2 * n))) × Small result }
+#[tactic(auto, using(laws::proofs::Ranges::ranges))]
+fn delta_three(g: &Graph, lists: &Lists, best: Option<Delta>) -> Result<Option<Delta>, Fault>
+    requires { SmallOr best }
+    ensures said { (at : Progress) → AnswersLeast (for_range (delta3_at g.now (state_of lists.now at)) 0 (2 * g.now.nodes) (least_of best)) result }
+    ensures small { IfOk result SmallOr }
 {
-    let mut d = from;
-    for b in 0..2 * n {
-        d = delta_three_at(ends, weights, duals, parents, labels, best, Group(b), d);
+    let mut d = best;
+    for b in 0..g.numbers() {
+        d = delta_three_at(g, lists, Group(b), d)?;
     }
-    d
+    Ok(d)
 }
 
 // Type 4 over all groups.
-fn delta_four(
-    duals: &[i64],
-    bases: &[u16],
-    parents: &[u16],
-    labels: &[u16],
-    n: u16,
-    from: Delta,
-) -> Delta
-    requires { Near 4503599627370496 duals.now × Small from × GroupsFit n bases.now parents.now labels.now duals.now }
-    ensures { ((s : State) → delta_of result ≡ and_then (delta_of from) (for_range (delta4_at (grouped bases.now parents.now labels.now duals.now s)) n n)) × Small result }
+#[tactic(auto, using(laws::proofs::Ranges::ranges))]
+fn delta_four(g: &Graph, lists: &Lists, best: Option<Delta>) -> Result<Option<Delta>, Fault>
+    requires { SmallOr best }
+    ensures said { (at : Progress) → AnswersLeast (for_range (delta4_at (state_of lists.now at)) g.now.nodes g.now.nodes (least_of best)) result }
+    ensures small { IfOk result SmallOr }
 {
-    let mut d = from;
-    for b in n..2 * n {
-        d = delta_four_at(duals, bases, parents, labels, Group(b), d);
+    let mut d = best;
+    for b in g.nodes()..g.numbers() {
+        d = delta_four_at(lists, Group(b), d)?;
     }
-    d
+    Ok(d)
 }
 
 // No candidate under the flag: the larger of 0 and the least node dual.
-fn delta_last(duals: &[i64], n: u16, best: Delta) -> Delta
-    requires { (n ≤ length duals.now) × (Near 4503599627370496 duals.now) × Small best }
-    ensures { ((edges : List EdgeOf) (s : State) → delta_of result ≡ and_then (delta_of best) (delta_last (graph_of n edges) (with_duals duals.now s))) × Small result }
+#[tactic(auto, unfolding(steps::specs::Adjust::delta_last))]
+fn delta_last(g: &Graph, lists: &Lists, best: Option<Delta>) -> Result<Delta, Fault>
+    requires small { SmallOr best }
+    requires size { sized lists.now ≡ size_of g.now }
+    ensures said { (at : Progress) → AnswersDelta (delta_last_of g.now (state_of lists.now at) (least_of best)) result }
+    ensures small { IfOk result Small }
 {
-    if best.kind != 0 {
-        return best;
-    }
-    let Amount::Of(d) = least_dual(duals, n) else {
-        return failed();
-    };
-    let amount = greater(0, d);
-    Delta {
-        kind: 1,
-        amount,
-        place: 0,
+    match best {
+        Some(d) => Ok(d),
+        None => {
+            let d = least(lists.node_duals())?;
+            Ok(Delta::One(d.max(0)))
+        }
     }
 }
 
 // The least amount of all types. What it is added to stays far within an i64.
-pub fn choose(
-    ends: &[u16],
-    weights: &[i64],
-    duals: &[i64],
-    tops: &[u16],
-    bases: &[u16],
-    parents: &[u16],
-    labels: &[u16],
-    best: &[u16],
-    n: u16,
-    flag: bool,
-) -> Delta
-    requires { SlackFits ends.now weights.now duals.now × GroupsFit n bases.now parents.now labels.now duals.now }
-    ensures { ((edges : List EdgeOf) → ends_of edges ≡ ends.now → weights_of edges ≡ weights.now → (s : State) → delta_of result ≡ choose_delta (graph_of n edges) flag (seen tops.now bases.now parents.now labels.now best.now duals.now s)) × Small result }
+#[tactic(auto, unfolding(steps::specs::Adjust::choose_delta))]
+pub fn choose(g: &Graph, lists: &Lists, flag: bool) -> Result<Delta, Fault>
+    requires { sized lists.now ≡ size_of g.now }
+    ensures said { (at : Progress) → AnswersDelta (choose_delta g.now flag (state_of lists.now at)) result }
+    ensures small { IfOk result Small }
 {
-    let one = delta_one(duals, n, flag);
-    let two = delta_two(ends, weights, duals, tops, labels, best, n, one);
-    let three = delta_three(ends, weights, duals, parents, labels, best, n, two);
-    let four = delta_four(duals, bases, parents, labels, n, three);
-    delta_last(duals, n, four)
+    let one = delta_one(g, lists, flag)?;
+    let two = delta_two(g, lists, one)?;
+    let three = delta_three(g, lists, two)?;
+    let four = delta_four(g, lists, three)?;
+    let d = delta_last(g, lists, four)?;
+    Ok(d)
 }

@@ -1,100 +1,69 @@
 // What follows an adjustment of type 2 or 3: an edge is allowed, and its end in a label-1 group is queued.
-ghost use Rattle.std.specs.Prelude.{◌≡◌, true, List, ◌+◌, ◌*◌, ◌<◌, ◌≤◌, length, take};
-ghost use Rattle.laws.specs.Run.{put};
-ghost use Rattle.matching.specs.Graph.{Edge as EdgeOf, Graph, graph_of, edge_at};
-ghost use Rattle.numbers.specs.Edges.{ends_of};
-ghost use Rattle.numbers.specs.View.{Agrees, counted, got_node};
-ghost use Rattle.steps.specs.State.{State};
-ghost use Rattle.steps.specs.Adjust.{resume as resume_of, labelled_end, follow2, follow3};
-ghost use Rattle.stages.specs.View.{topped, waiting, allowing};
+ghost use Rattle.std.specs.Prelude.{◌≡◌};
+ghost use Rattle.matching.specs.Graph.{edge};
+ghost use Rattle.steps.specs.State.{Progress};
+ghost use Rattle.steps.specs.Adjust.{resume as resume_of, labelled_end as labelled_end_of, follow2, follow3};
+ghost use Rattle.numbers.specs.Answers.{AnswersNode, Agrees};
+ghost use Rattle.state.specs.Parts.{state_of, sized, size_of};
 
-use crate::top_label;
-use labels::marks::enqueue;
-use numbers::{Edge, Got, GotNode, Node};
+use edges::graph::{EdgeAt, Graph};
+use numbers::faults::{Fault, must};
+use numbers::{Edge, Node};
+use state::lists::Lists;
 
-// Edge e is allowed from now on.
-fn allow(allowed: &mut [bool], e: Edge) -> bool
-    ensures { Agrees (put allowed.old e.0 true) result allowed.new }
+// Node v, of a label-1 group, is queued.
+#[tactic(auto, unfolding(steps::specs::Adjust::resume))]
+fn resume(g: &Graph, lists: &mut Lists, v: Node) -> Result<(), Fault>
+    requires { sized lists.old ≡ size_of g.now }
+    ensures said { (at : Progress) → Agrees (resume_of g.now v.0 (state_of lists.old at)) result (state_of lists.new at) }
+    ensures size { sized lists.new ≡ sized lists.old }
+    ensures kids { lists.new.forest.kids ≡ lists.old.forest.kids }
 {
-    let k = e.number() as usize;
-    if k >= allowed.len() {
-        return false;
-    }
-    allowed[k] = true;
-    true
+    let t = lists.top(v)?;
+    let l = lists.label(t.0)?;
+    must(l == 1)?;
+    lists.enqueue(g, v)?;
+    Ok(())
 }
 
-// Node v, of a label-1 group, is queued; the answer is how many are queued then.
-fn resume(queue: &mut [u16], queued: u16, tops: &[u16], labels: &[u16], n: u16, v: Node) -> Got
-    requires { (n ≤ 512) × (length queue.old ≡ 2 * n) }
-    ensures { (edges : List EdgeOf) (s : State) → counted result (λ k. waiting tops.now labels.now (take k queue.new) s) ≡ resume_of (graph_of n edges) v.0 (waiting tops.now labels.now (take queued queue.old) s) }
+// The end of edge x in a label-1 group: the second where the first is free.
+#[tactic(auto, unfolding(steps::specs::Adjust::labelled_end))]
+fn labelled_end(lists: &Lists, x: EdgeAt) -> Result<Node, Fault>
+    ensures { (at : Progress) → AnswersNode (labelled_end_of (state_of lists.now at) (edge x.first.0 x.second.0 x.weight)) result }
 {
-    let Got::At(l) = top_label(tops, labels, v) else {
-        return Got::Out;
-    };
-    if l != 1 {
-        return Got::Out;
-    }
-    enqueue(queue, queued, n, v)
-}
-
-// The end of edge e in a label-1 group: the second where the first is free.
-fn labelled_end(ends: &[u16], tops: &[u16], labels: &[u16], e: Edge) -> GotNode
-    requires { 2 * e.0 + 1 < length ends.now }
-    ensures { (G : Graph) → ends_of G.edges ≡ ends.now → (s : State) → got_node result ≡ labelled_end (topped tops.now labels.now s) (edge_at G e.0) }
-{
-    let k = e.number() as usize;
-    let v = Node(ends[2 * k]);
-    let Got::At(l) = top_label(tops, labels, v) else {
-        return GotNode::Out;
-    };
+    let t = lists.top(x.first)?;
+    let l = lists.label(t.0)?;
     if l == 0 {
-        return GotNode::At(Node(ends[2 * k + 1]));
+        return Ok(x.second);
     }
-    GotNode::At(v)
+    Ok(x.first)
 }
 
-// After type 2; the answer is how many are queued then.
-pub fn follow_two(
-    ends: &[u16],
-    allowed: &mut [bool],
-    queue: &mut [u16],
-    queued: u16,
-    tops: &[u16],
-    labels: &[u16],
-    n: u16,
-    e: Edge,
-) -> Got
-    requires { (length ends.now ≡ 2 * length allowed.old) × (n ≤ 512) × (length queue.old ≡ 2 * n) }
-    ensures { (edges : List EdgeOf) → ends_of edges ≡ ends.now → (s : State) → counted result (λ k. allowing tops.now labels.now (take k queue.new) allowed.new s) ≡ follow2 (graph_of n edges) e.0 (allowing tops.now labels.now (take queued queue.old) allowed.old s) }
+// After type 2: edge e, which leads to a free node, is allowed.
+#[tactic(auto, unfolding(steps::specs::Adjust::follow2))]
+pub fn follow_two(g: &Graph, lists: &mut Lists, e: Edge) -> Result<(), Fault>
+    requires { sized lists.old ≡ size_of g.now }
+    ensures said { (at : Progress) → Agrees (follow2 g.now e.0 (state_of lists.old at)) result (state_of lists.new at) }
+    ensures size { sized lists.new ≡ sized lists.old }
+    ensures kids { lists.new.forest.kids ≡ lists.old.forest.kids }
 {
-    if !allow(allowed, e) {
-        return Got::Out;
-    }
-    let GotNode::At(v) = labelled_end(ends, tops, labels, e) else {
-        return Got::Out;
-    };
-    resume(queue, queued, tops, labels, n, v)
+    lists.put_allowed(e, true)?;
+    let x = g.edge(e)?;
+    let v = labelled_end(lists, x)?;
+    resume(g, lists, v)?;
+    Ok(())
 }
 
-// After type 3; the answer is how many are queued then.
-pub fn follow_three(
-    ends: &[u16],
-    allowed: &mut [bool],
-    queue: &mut [u16],
-    queued: u16,
-    tops: &[u16],
-    labels: &[u16],
-    n: u16,
-    e: Edge,
-) -> Got
-    requires { (length ends.now ≡ 2 * length allowed.old) × (n ≤ 512) × (length queue.old ≡ 2 * n) }
-    ensures { (edges : List EdgeOf) → ends_of edges ≡ ends.now → (s : State) → counted result (λ k. allowing tops.now labels.now (take k queue.new) allowed.new s) ≡ follow3 (graph_of n edges) e.0 (allowing tops.now labels.now (take queued queue.old) allowed.old s) }
+// After type 3: edge e between two label-1 groups is allowed. The end with a label is no choice here, so nothing is shared with type 2.
+#[tactic(auto, unfolding(steps::specs::Adjust::follow3))]
+pub fn follow_three(g: &Graph, lists: &mut Lists, e: Edge) -> Result<(), Fault>
+    requires { sized lists.old ≡ size_of g.now }
+    ensures said { (at : Progress) → Agrees (follow3 g.now e.0 (state_of lists.old at)) result (state_of lists.new at) }
+    ensures size { sized lists.new ≡ sized lists.old }
+    ensures kids { lists.new.forest.kids ≡ lists.old.forest.kids }
 {
-    if !allow(allowed, e) {
-        return Got::Out;
-    }
-    let k = e.number() as usize;
-    let v = Node(ends[2 * k]);
-    resume(queue, queued, tops, labels, n, v)
+    lists.put_allowed(e, true)?;
+    let x = g.edge(e)?;
+    resume(g, lists, x.first)?;
+    Ok(())
 }

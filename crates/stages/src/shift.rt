@@ -1,141 +1,114 @@
-// Moving the duals by the amount of an adjustment.
-ghost use Rattle.std.specs.Prelude.{◌≡◌, List, ◌*◌, ◌<◌, ◌≤◌, leb, nat_abs, length};
+// The duals move by the amount of an adjustment.
+ghost use Rattle.std.specs.Prelude.{◌≡◌, ◌≤◌, nat_abs, leb};
 ghost use Rattle.laws.specs.Run.{for_range};
-ghost use Rattle.matching.specs.Graph.{Edge as EdgeOf, graph_of};
 ghost use Rattle.matching.specs.Certificate.{max_dual};
-ghost use Rattle.numbers.specs.Near.{Near};
-ghost use Rattle.numbers.specs.View.{Agrees};
-ghost use Rattle.steps.specs.State.{State};
-ghost use Rattle.steps.specs.Stores.{with_duals};
-ghost use Rattle.steps.specs.Adjust.{put_fit_dual, move_node, move_group, move_duals};
-ghost use Rattle.stages.specs.View.{GroupFits, GroupsFit, noded, grouped, weighed};
+ghost use Rattle.steps.specs.State.{Progress};
+ghost use Rattle.steps.specs.Adjust.{put_fit_dual as put_fit_dual_of, move_node as move_node_of, move_group as move_group_of, move_duals as move_duals_of};
+ghost use Rattle.numbers.specs.Answers.{Agrees};
+ghost use Rattle.state.specs.Parts.{state_of, sized, size_of};
 
-use crate::delta::is_outermost;
-use crate::top_label;
-use numbers::{Got, Group, Node};
+use edges::graph::Graph;
+use numbers::faults::{Fault, must};
+use numbers::{Group, Node};
+use state::lists::Lists;
 
+// The certificate's test has the same limit for itself: the search does not know it.
 const MAX_DUAL: i64 = 4503599627370496;
-
-const MIN_DUAL: i64 = -4503599627370496;
 
 // A dual may not leave -2^52 to 2^52.
 fn fits_dual(d: i64) -> bool
     ensures { result ≡ leb (nat_abs d) max_dual }
 {
-    if MAX_DUAL < d {
-        return false;
-    }
-    MIN_DUAL <= d
+    -MAX_DUAL <= d && d <= MAX_DUAL
 }
 
-// Dual i becomes d.
-fn put_fit_dual(duals: &mut [i64], i: u16, d: i64) -> bool
-    requires { Near 4503599627370496 duals.old }
-    ensures { ((s : State) → Agrees (put_fit_dual i d (with_duals duals.old s)) result (with_duals duals.new s)) × Near 4503599627370496 duals.new }
+// Dual i becomes d where it fits.
+#[tactic(auto, unfolding(steps::specs::Adjust::put_fit_dual))]
+fn put_fit_dual(lists: &mut Lists, i: u16, d: i64) -> Result<(), Fault>
+    ensures said { (at : Progress) → Agrees (put_fit_dual_of i d (state_of lists.old at)) result (state_of lists.new at) }
+    ensures size { sized lists.new ≡ sized lists.old }
+    ensures kids { lists.new.forest.kids ≡ lists.old.forest.kids }
 {
-    if !fits_dual(d) {
-        return false;
-    }
-    let k = i as usize;
-    if k >= duals.len() {
-        return false;
-    }
-    duals[k] = d;
-    true
+    must(fits_dual(d))?;
+    lists.put_dual(i, d)?;
+    Ok(())
 }
 
 // A node of a label-1 group loses delta, of a label-2 group gains it.
-fn move_node(duals: &mut [i64], tops: &[u16], labels: &[u16], delta: i64, v: Node) -> bool
-    requires { Near 4503599627370496 duals.old × (nat_abs delta ≤ 18014398509481984) × (v.0 < length duals.old) }
-    ensures { ((s : State) → Agrees (move_node delta v.0 (noded tops.now labels.now duals.old s)) result (noded tops.now labels.now duals.new s)) × Near 4503599627370496 duals.new }
+#[tactic(auto, unfolding(steps::specs::Adjust::move_node))]
+fn move_node(lists: &mut Lists, delta: i64, v: Node) -> Result<(), Fault>
+    requires { nat_abs delta ≤ 18014398509481984 }
+    ensures said { (at : Progress) → Agrees (move_node_of delta v.0 (state_of lists.old at)) result (state_of lists.new at) }
+    ensures size { sized lists.new ≡ sized lists.old }
+    ensures kids { lists.new.forest.kids ≡ lists.old.forest.kids }
 {
-    let Got::At(l) = top_label(tops, labels, v) else {
-        return false;
-    };
-    let i = v.number();
-    let d = duals[i as usize];
+    let t = lists.top(v)?;
+    let l = lists.label(t.0)?;
+    let d = lists.dual(v.0)?;
     if l == 1 {
-        return put_fit_dual(duals, i, d - delta);
+        put_fit_dual(lists, v.0, d - delta)?;
+    } else if l == 2 {
+        put_fit_dual(lists, v.0, d + delta)?;
     }
-    if l == 2 {
-        return put_fit_dual(duals, i, d + delta);
-    }
-    true
+    Ok(())
 }
 
-// An outermost label-1 group gains delta, a label-2 group loses it.
-fn move_group(
-    duals: &mut [i64],
-    bases: &[u16],
-    parents: &[u16],
-    labels: &[u16],
-    delta: i64,
-    b: Group,
-) -> bool
-    requires { Near 4503599627370496 duals.old × (nat_abs delta ≤ 18014398509481984) × GroupFits b.0 bases.now parents.now labels.now duals.old }
-    ensures { ((s : State) → Agrees (move_group delta b.0 (grouped bases.now parents.now labels.now duals.old s)) result (grouped bases.now parents.now labels.now duals.new s)) × Near 4503599627370496 duals.new }
+// An outermost label-1 group gains delta, a label-2 group loses it. Not the same as a node: the definition has other amounts and tests.
+#[tactic(auto, unfolding(steps::specs::Adjust::move_group))]
+fn move_group(lists: &mut Lists, delta: i64, b: Group) -> Result<(), Fault>
+    requires { nat_abs delta ≤ 18014398509481984 }
+    ensures said { (at : Progress) → Agrees (move_group_of delta b.0 (state_of lists.old at)) result (state_of lists.new at) }
+    ensures size { sized lists.new ≡ sized lists.old }
+    ensures kids { lists.new.forest.kids ≡ lists.old.forest.kids }
 {
-    if !is_outermost(bases, parents, b) {
-        return true;
+    if !lists.is_outermost(b)? {
+        return Ok(());
     }
-    let i = b.number();
-    let t = labels[i as usize];
-    let u = duals[i as usize];
+    let t = lists.label(b.0)?;
+    let d = lists.dual(b.0)?;
     if t == 1 {
-        return put_fit_dual(duals, i, u + delta);
+        put_fit_dual(lists, b.0, d + delta)?;
+    } else if t == 2 {
+        put_fit_dual(lists, b.0, d - delta)?;
     }
-    if t == 2 {
-        return put_fit_dual(duals, i, u - delta);
-    }
-    true
+    Ok(())
 }
 
-fn move_nodes(duals: &mut [i64], tops: &[u16], labels: &[u16], n: u16, delta: i64) -> bool
-    requires { Near 4503599627370496 duals.old × (nat_abs delta ≤ 18014398509481984) × (n ≤ length duals.old) }
-    ensures { ((s : State) → Agrees (for_range (move_node delta) 0 n (noded tops.now labels.now duals.old s)) result (noded tops.now labels.now duals.new s)) × Near 4503599627370496 duals.new }
+#[tactic(auto, using(laws::proofs::Ranges::ranges))]
+fn move_nodes(g: &Graph, lists: &mut Lists, delta: i64) -> Result<(), Fault>
+    requires { nat_abs delta ≤ 18014398509481984 }
+    ensures said { (at : Progress) → Agrees (for_range (move_node_of delta) 0 g.now.nodes (state_of lists.old at)) result (state_of lists.new at) }
+    ensures size { sized lists.new ≡ sized lists.old }
+    ensures kids { lists.new.forest.kids ≡ lists.old.forest.kids }
 {
-    for v in 0..n {
-        if !move_node(duals, tops, labels, delta, Node(v)) {
-            return false;
-        }
+    for v in 0..g.nodes() {
+        move_node(lists, delta, Node(v))?;
     }
-    true
+    Ok(())
 }
 
-fn move_groups(
-    duals: &mut [i64],
-    bases: &[u16],
-    parents: &[u16],
-    labels: &[u16],
-    n: u16,
-    delta: i64,
-) -> bool
-    requires { Near 4503599627370496 duals.old × (nat_abs delta ≤ 18014398509481984) × GroupsFit n bases.now parents.now labels.now duals.old }
-    ensures { ((s : State) → Agrees (for_range (move_group delta) n n (grouped bases.now parents.now labels.now duals.old s)) result (grouped bases.now parents.now labels.now duals.new s)) × Near 4503599627370496 duals.new }
+#[tactic(auto, using(laws::proofs::Ranges::ranges))]
+fn move_groups(g: &Graph, lists: &mut Lists, delta: i64) -> Result<(), Fault>
+    requires { nat_abs delta ≤ 18014398509481984 }
+    ensures said { (at : Progress) → Agrees (for_range (move_group_of delta) g.now.nodes g.now.nodes (state_of lists.old at)) result (state_of lists.new at) }
+    ensures size { sized lists.new ≡ sized lists.old }
+    ensures kids { lists.new.forest.kids ≡ lists.old.forest.kids }
 {
-    for b in n..2 * n {
-        if !move_group(duals, bases, parents, labels, delta, Group(b)) {
-            return false;
-        }
+    for b in g.nodes()..g.numbers() {
+        move_group(lists, delta, Group(b))?;
     }
-    true
+    Ok(())
 }
 
-// All duals move; they stay within the limit.
-pub fn move_duals(
-    duals: &mut [i64],
-    tops: &[u16],
-    bases: &[u16],
-    parents: &[u16],
-    labels: &[u16],
-    n: u16,
-    delta: i64,
-) -> bool
-    requires { Near 4503599627370496 duals.old × (nat_abs delta ≤ 18014398509481984) × GroupsFit n bases.now parents.now labels.now duals.old }
-    ensures { ((edges : List EdgeOf) (s : State) → Agrees (move_duals (graph_of n edges) delta (weighed tops.now bases.now parents.now labels.now duals.old s)) result (weighed tops.now bases.now parents.now labels.now duals.new s)) × Near 4503599627370496 duals.new }
+// All duals move.
+#[tactic(auto, unfolding(steps::specs::Adjust::move_duals))]
+pub fn move_duals(g: &Graph, lists: &mut Lists, delta: i64) -> Result<(), Fault>
+    requires { nat_abs delta ≤ 18014398509481984 }
+    ensures said { (at : Progress) → Agrees (move_duals_of g.now delta (state_of lists.old at)) result (state_of lists.new at) }
+    ensures size { sized lists.new ≡ sized lists.old }
+    ensures kids { lists.new.forest.kids ≡ lists.old.forest.kids }
 {
-    if !move_nodes(duals, tops, labels, n, delta) {
-        return false;
-    }
-    move_groups(duals, bases, parents, labels, n, delta)
+    move_nodes(g, lists, delta)?;
+    move_groups(g, lists, delta)?;
+    Ok(())
 }

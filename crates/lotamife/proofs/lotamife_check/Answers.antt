@@ -4,7 +4,7 @@ use Rattle.lotamife.proofs.lotamife_check.Goals as goal
 
 pub returns : goal.returns
 returns c =
-    let number = c.verdict_number in
-    let place = c.verdict_place in
+    let number = c.number in
+    let place = c.place in
     let check = c.check-verdict in
     (number.ensures ∙ ap judgement_number check.ensures, place.ensures ∙ ap judgement_place check.ensures)

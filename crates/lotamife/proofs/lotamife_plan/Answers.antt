@@ -4,9 +4,9 @@ use Rattle.lotamife.proofs.lotamife_plan.Goals as goal
 
 pub returns : goal.returns
 returns c =
-    let number = c.answer_number in
-    let steps = c.answer_steps in
-    let place = c.answer_place in
+    let number = c.number in
+    let steps = c.steps in
+    let place = c.place in
     let plan = c.plan-answer in
     record {
       numbered = number.ensures ∙ ap (λ (p : Plan). answer_number p.answer) plan.ensures;

@@ -1,14 +1,18 @@
-use Rattle.std.proofs.Common.{◌∙◌}
-use Rattle.printed.proofs.Texts.{put_same}
+use Rattle.std.proofs.Common.{ap, ◌∙◌, List, ℕ}
+use Rattle.printed.specs.Page.{page, with_text}
 use Rattle.sites.proofs.DoneLaws.{weighs, lists_text}
 use Rattle.sites.proofs.answer_lists.Goals as goal
 
-pub put_answer-requires : goal.put_answer-requires
-put_answer-requires c =
-    let r = c.plan-answer in
-    (c.requires.0, r.auto.mates ∙ c.requires.3, c.requires.1, c.requires.2, weighs _ c.args.n c.args.first.now c.args.second.now c.args.weight.now c.args.flag c.args.budget _ _ _ r.result r.ensures)
+pub put_answer-requires-clause-weighs : goal.put_answer-requires-clause-weighs
+put_answer-requires-clause-weighs c =
+    let s = c.args.site in
+    weighs _ s.n s.first.now s.second.now s.weight.now s.flag s.budget _ _ _ _ (rw c.from.ensures at c.plan-answer.ensures)
 
 pub returns : goal.returns
 returns c =
+    let s = c.args.site in
     let r = c.plan-answer in
-    put_same (lists_text c.args.n c.args.first.now c.args.second.now c.args.weight.now c.args.flag c.args.budget _ r.ensures c.requires.3 c.requires.4 c.requires.5) (c.put_answer.ensures r.new.duals r.new.parents)
+    let e = lists_text s.n s.first.now s.second.now s.weight.now s.flag s.budget _ (rw c.from.ensures at r.ensures) c.requires.0 c.requires.1 c.requires.2 in
+    let before = page c.args.text.now.out.now c.args.text.now.len in
+    let put = c.put_answer.ensures r.new.duals r.new.parents in
+    (put.0 ∙ ap (λ (t : List ℕ). with_text t before) e, put.1)

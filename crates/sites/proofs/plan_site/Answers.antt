@@ -1,7 +1,15 @@
-use Rattle.std.proofs.Common.{length}
+use Rattle.std.proofs.Common.{rules, ◌≡◌, length, replicate}
+use Rattle.sites.specs.Answered.{answered}
 use Rattle.sites.proofs.ReadLaws.{put_all}
 use Rattle.sites.proofs.plan_site.Goals as goal
 
-pub returns : goal.returns
-returns c =
-    let all = put_all (length c.args.out.now) c.clear.ensures c.answer_file.ensures in record { out_after = all.0; value = all.1 }
+pub returns-clause-out_after : goal.returns-clause-out_after
+returns-clause-out_after c =
+    let f : c.fill.new.self ≡ replicate (length c.args.out.now) 0 = search rules in
+    let all = put_all (length c.args.out.now) (answered c.args.file.now) (rw f at c.answer_file.ensures.0) in
+    search (rules, all.0)
+
+pub returns-clause-value : goal.returns-clause-value
+returns-clause-value c =
+    let f : c.fill.new.self ≡ replicate (length c.args.out.now) 0 = search rules in
+    (put_all (length c.args.out.now) (answered c.args.file.now) (rw f at c.answer_file.ensures.0)).1

@@ -1,10 +1,9 @@
-use Rattle.std.proofs.Common.{◌≡◌, ◌*◌, ◌≤◌}
-use Rattle.steps.specs.Augment.{child_holding}
+use Rattle.std.proofs.Common.{◌≡◌, ◌*◌, ◌-◌}
+use Rattle.laws.specs.Run.{while}
+use Rattle.steps.specs.Augment.{climb_goes, climb_move}
 use Rattle.augment.proofs.turn.child_holding.Given as goal
 
-abbrev pub invariant-loop-p : goal.invariant-loop-p
-invariant-loop-p l =
-    (l.left ≤ 2 * l.n) × (child_holding l.parents l.left l.up l.t.0 ≡ child_holding l.parents (2 * l.n) l.up l.initial.t.0)
-
-abbrev pub decreases-loop-p : goal.decreases-loop-p
-decreases-loop-p l = l.left
+abbrev pub invariant-loop : goal.invariant-loop
+invariant-loop l =
+    while (climb_goes l.lists.forest.lists.parents l.b.0) (climb_move l.lists.forest.lists.parents) (2 * l.g.nodes - l.counter) l.t.0
+    ≡ while (climb_goes l.lists.forest.lists.parents l.b.0) (climb_move l.lists.forest.lists.parents) (2 * l.g.nodes) l.fn.v.0

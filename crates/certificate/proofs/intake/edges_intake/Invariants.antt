@@ -1,11 +1,8 @@
-use Rattle.std.proofs.Common.{◌≡◌, ◌-◌, ◌≤◌, length, drop}
+use Rattle.std.proofs.Common.{◌≡◌, drop}
 use Rattle.matching.specs.Graph.{edges_from}
 use Rattle.steps.specs.Refusals.{edges_intake}
 use Rattle.certificate.proofs.intake.edges_intake.Given as goal
 
 abbrev pub invariant-loop-e : goal.invariant-loop-e
 invariant-loop-e l =
-    (l.e ≤ length l.first) × (l.e-end ≡ length l.first) × (edges_intake l.n l.e (drop l.e (edges_from l.first l.second l.weight)) ≡ edges_intake l.n 0 (edges_from l.first l.second l.weight))
-
-abbrev pub decreases-loop-e : goal.decreases-loop-e
-decreases-loop-e l = length l.first - l.e
+    edges_intake l.n l.e (drop l.e (edges_from l.first l.second l.weight)) ≡ edges_intake l.n 0 (edges_from l.first l.second l.weight)

@@ -25,8 +25,12 @@ pub loop-k-smaller : goal.loop-k-smaller
 loop-k-smaller c = omega arith
 
 pub loop-k-preserved : goal.loop-k-preserved
-loop-k-preserved c =
-    ((c.requires.1.is_group c.loop-k.at c.loop-k.invariant.0 c.if-p.false).1, omega arith, climb_more _ _ c.requires.1.as_many c.loop-k.at c.loop-k.invariant.0 c.loop-k.k c.loop-k-test.true c.if-p.false c.loop-k.invariant.2)
+loop-k-preserved c = (
+  (c.requires.1.is_group c.loop-k.at c.loop-k.invariant.0 c.if-p.false).1,
+  omega arith,
+  climb_more _ _ c.requires.1.as_many c.loop-k.at
+      c.loop-k.invariant.0 c.loop-k.k c.loop-k-test.true c.if-p.false c.loop-k.invariant.2,
+)
 
 pub overflow_cast-result : goal.overflow_cast-result
 overflow_cast-result c = omega (arith, c.requires.0)

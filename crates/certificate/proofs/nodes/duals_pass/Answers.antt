@@ -32,8 +32,12 @@ loop-i-smaller c = omega arith
 
 pub loop-i-preserved : goal.loop-i-preserved
 loop-i-preserved c =
-    let e = to_z-of_z w64 (get_or c.args.duals.now c.loop-i.i (pos 0)) (record { sfits = c.dual_fits-arg-1.given }) in
-    (omega arith, c.loop-i.invariant.1, all_next _ c.loop-i.i _ (omega arith) (dual_test_lem _ _ _ c.loop-i.i ∙ sym (rw e at c.dual_fits.ensures) ∙ c.if-not-dual_fits.false) c.loop-i.invariant.2)
+    let e = to_z-of_z w64 (get_or c.args.duals.now c.loop-i.i (pos 0)) (record { sfits = c.dual_fits-arg-1.given }) in (
+      omega arith,
+      c.loop-i.invariant.1,
+      all_next _ c.loop-i.i _ (omega arith)
+          (dual_test_lem _ _ _ c.loop-i.i ∙ sym (rw e at c.dual_fits.ensures) ∙ c.if-not-dual_fits.false) c.loop-i.invariant.2,
+    )
 
 pub returns : goal.returns
 returns c = all_end _ c.loop-i.i _ (omega arith) c.loop-i.invariant.2

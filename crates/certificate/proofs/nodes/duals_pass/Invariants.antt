@@ -6,7 +6,8 @@ use Rattle.certificate.proofs.nodes.duals_pass.Given as goal
 
 abbrev pub invariant-loop-i : goal.invariant-loop-i
 invariant-loop-i l =
-    (l.i ≤ 2 * l.n) × (l.i-end ≡ 2 * l.n) × (all (dual_test (bare l.n) l.flag l.duals) (range l.i (2 * l.n - l.i)) ≡ all (dual_test (bare l.n) l.flag l.duals) (range 0 (2 * l.n)))
+    (l.i ≤ 2 * l.n) × (l.i-end ≡ 2 * l.n) × (all (dual_test (bare l.n) l.flag l.duals) (range l.i (2 * l.n - l.i))
+    ≡ all (dual_test (bare l.n) l.flag l.duals) (range 0 (2 * l.n)))
 
 abbrev pub decreases-loop-i : goal.decreases-loop-i
 decreases-loop-i l = 2 * l.n - l.i

@@ -39,7 +39,8 @@ free_fits-requires c =
 pub returns-then-not-free_fits : goal.returns-then-not-free_fits
 returns-then-not-free_fits c =
     let d = to_z-of_z w64 (get_or c.args.duals.now c.loop-v.v (pos 0)) (near_fits _ (c.requires.2.is_small c.loop-v.v (omega arith))) in
-    all_stop _ c.loop-v.v _ c.loop-v-test.true (free_test_lem _ c.args.flag _ _ c.loop-v.v c.requires.1 c.loop-v-test.true ∙ sym (rw (d, c.loop-v.invariant.1) at c.free_fits.ensures) ∙ c.if-not-free_fits.true) c.loop-v.invariant.3
+    all_stop _ c.loop-v.v _ c.loop-v-test.true (free_test_lem _ c.args.flag _ _ c.loop-v.v c.requires.1 c.loop-v-test.true
+    ∙ sym (rw (d, c.loop-v.invariant.1) at c.free_fits.ensures) ∙ c.if-not-free_fits.true) c.loop-v.invariant.3
 
 pub overflow_step-v : goal.overflow_step-v
 overflow_step-v c = omega (arith, c.requires.0)
@@ -49,8 +50,14 @@ loop-v-smaller c = omega arith
 
 pub loop-v-preserved : goal.loop-v-preserved
 loop-v-preserved c =
-    let d = to_z-of_z w64 (get_or c.args.duals.now c.loop-v.v (pos 0)) (near_fits _ (c.requires.2.is_small c.loop-v.v (omega arith))) in
-    (omega arith, c.loop-v.invariant.1, c.loop-v.invariant.2, all_next _ c.loop-v.v _ c.loop-v-test.true (free_test_lem _ c.args.flag _ _ c.loop-v.v c.requires.1 c.loop-v-test.true ∙ sym (rw (d, c.loop-v.invariant.1) at c.free_fits.ensures) ∙ c.if-not-free_fits.false) c.loop-v.invariant.3)
+    let d = to_z-of_z w64 (get_or c.args.duals.now c.loop-v.v (pos 0)) (near_fits _ (c.requires.2.is_small c.loop-v.v (omega arith))) in (
+      omega arith,
+      c.loop-v.invariant.1,
+      c.loop-v.invariant.2,
+      all_next _ c.loop-v.v _ c.loop-v-test.true
+          (free_test_lem _ c.args.flag _ _ c.loop-v.v c.requires.1 c.loop-v-test.true ∙ sym (rw (d, c.loop-v.invariant.1) at c.free_fits.ensures)
+          ∙ c.if-not-free_fits.false) c.loop-v.invariant.3,
+    )
 
 pub returns : goal.returns
 returns c = all_end _ c.loop-v.v _ c.loop-v-test.false c.loop-v.invariant.3

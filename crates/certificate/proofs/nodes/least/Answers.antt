@@ -13,8 +13,12 @@ bounds-duals-0 c = omega (arith, c.requires.1.as_many, c.if-n-eq0.false)
 
 pub loop-v-init : goal.loop-v-init
 loop-v-init c =
-    let e = to_z-of_z w64 (get_or c.args.duals.now 0 (pos 0)) (near_fits _ (c.requires.1.is_small 0 (omega (arith, c.if-n-eq0.false)))) in
-    (omega arith, omega (arith, c.if-n-eq0.false), rw e (least_start c.args.n c.args.duals.now (omega (arith, c.requires.1.as_many)) (omega (arith, c.if-n-eq0.false))))
+    let e = to_z-of_z w64 (get_or c.args.duals.now 0 (pos 0)) (near_fits _ (c.requires.1.is_small 0 (omega (arith, c.if-n-eq0.false)))) in (
+      omega arith,
+      omega (arith, c.if-n-eq0.false),
+      rw e (least_start c.args.n c.args.duals.now (omega (arith, c.requires.1.as_many))
+          (omega (arith, c.if-n-eq0.false))),
+    )
 
 pub overflow_cast-v : goal.overflow_cast-v
 overflow_cast-v c = omega (arith, c.requires.0)
@@ -34,8 +38,12 @@ loop-v-smaller c = omega arith
 pub loop-v-preserved : goal.loop-v-preserved
 loop-v-preserved c =
     let d = to_z-of_z w64 (get_or c.args.duals.now c.loop-v.v (pos 0)) (near_fits _ (c.requires.1.is_small c.loop-v.v (omega arith))) in
-    let r = to_z-of_z w64 c.lesser-low.result (search rules) in
-    (omega arith, omega arith, rw (r, c.lesser-low.ensures, d) (least_turn c.args.n c.args.duals.now (omega (arith, c.requires.1.as_many)) _ c.loop-v.v c.loop-v-test.true c.loop-v.invariant.2))
+    let r = to_z-of_z w64 c.lesser-low.result (search rules) in (
+      omega arith,
+      omega arith,
+      rw (r, c.lesser-low.ensures, d) (least_turn c.args.n c.args.duals.now (omega (arith, c.requires.1.as_many)) _ c.loop-v.v
+          c.loop-v-test.true c.loop-v.invariant.2),
+    )
 
 pub returns : goal.returns
 returns c =

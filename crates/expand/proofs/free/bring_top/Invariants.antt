@@ -1,10 +1,14 @@
-use Rattle.std.proofs.Common.{◌≡◌, ◌-◌, ◌≤◌, length}
-use Rattle.expand.proofs.FreeLaws.{ToBring}
+use Rattle.std.proofs.Common.{◌≡◌, drop}
+use Rattle.laws.specs.Run.{for_each}
+use Rattle.steps.specs.State.{Progress}
+use Rattle.steps.specs.Expand.{bring_top}
+use Rattle.state.specs.Parts.{state_of, sized}
 use Rattle.expand.proofs.free.bring_top.Given as goal
 
-abbrev pub invariant-loop-k : goal.invariant-loop-k
-invariant-loop-k l =
-    (l.k ≤ l.count) × (length l.tops ≡ length l.initial.tops) × ToBring l.x l.count l.nodes l.initial.tops l.k l.tops
-
-abbrev pub decreases-loop-k : goal.decreases-loop-k
-decreases-loop-k l = l.count - l.k
+abbrev pub invariant-loop-v : goal.invariant-loop-v
+invariant-loop-v l = record {
+  rest : (at : Progress) → for_each (bring_top l.c.0) (drop l.v-index l.nodes) (state_of l.lists at)
+      ≡ for_each (bring_top l.c.0) l.nodes (state_of l.fn.lists at);
+  size : sized l.lists ≡ sized l.fn.lists;
+  kids : l.lists.forest.kids ≡ l.fn.lists.forest.kids;
+}

@@ -1,21 +1,25 @@
-use Rattle.std.proofs.Common.{◌≡◌, List, ◌*◌, ◌<◌, length, take}
-use Rattle.laws.specs.Run.{while}
-use Rattle.matching.specs.Graph.{Edge, graph_of}
-use Rattle.numbers.specs.Edges.{ends_of}
-use Rattle.steps.specs.State.{State}
+use Rattle.std.proofs.Common.{◌≡◌}
+use Rattle.laws.specs.Run.{and_then, ok, while}
+use Rattle.steps.specs.State.{Progress}
 use Rattle.steps.specs.Expand.{onward_goes, onward_move}
-use Rattle.expand.specs.View.{relabelled}
-use Rattle.expand.proofs.RelabelLaws.{onward_at}
+use Rattle.state.specs.Parts.{state_of, sized}
+use Rattle.expand.specs.Parts.{to_entry}
+use Rattle.expand.specs.Told.{onward_at}
 use Rattle.expand.proofs.walk.onward.Given as goal
 
-abbrev pub invariant-loop-b : goal.invariant-loop-b
-invariant-loop-b l =
-    (l.j < l.m)
-    × (length l.labels ≡ length l.initial.labels)
-    × (length l.label_ends ≡ length l.initial.label_ends)
-    × (length l.best ≡ length l.initial.best)
-    × (length l.queue ≡ length l.initial.queue)
-    × ((edges : List Edge) → ends_of edges ≡ l.ends → (s : State) → while (onward_goes l.b.0 l.entry.0) (onward_move (graph_of l.n edges) l.b.0 l.forward) l.left (onward_at l.j (relabelled l.n l.labels l.label_ends l.best (take l.len l.queue) l.tops l.bases l.mates l.counts l.kids s)) ≡ while (onward_goes l.b.0 l.entry.0) (onward_move (graph_of l.n edges) l.b.0 l.forward) (2 * l.n) (onward_at l.initial.j (relabelled l.n l.initial.labels l.initial.label_ends l.initial.best (take l.queued l.initial.queue) l.tops l.bases l.mates l.counts l.kids s)))
+abbrev pub decreases-loop-kids : goal.decreases-loop-kids
+decreases-loop-kids l = l.left
 
-abbrev pub decreases-loop-b : goal.decreases-loop-b
-decreases-loop-b l = l.left
+abbrev pub invariant-loop-kids : goal.invariant-loop-kids
+invariant-loop-kids l =
+    let b = l.ring.b.0 in
+    let forward = l.ring.forward in
+    let go = onward_goes b l.entry.0 in
+    let step = onward_move l.g b forward in
+    record {
+      rest : (at : Progress) → and_then (while go step l.left (onward_at l.place (state_of l.lists at))) (λ o. ok o.state)
+          ≡ to_entry l.g b forward l.entry.0 l.fn.from (state_of l.fn.lists at);
+      size : sized l.lists ≡ sized l.fn.lists;
+      kids : l.lists.forest.kids ≡ l.fn.lists.forest.kids;
+      room : l.nodes.room ≡ l.fn.nodes.room;
+    }

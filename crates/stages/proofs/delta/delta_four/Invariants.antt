@@ -1,13 +1,14 @@
-use Rattle.std.proofs.Common.{◌≡◌, ◌*◌, ◌-◌, ◌≤◌}
-use Rattle.laws.specs.Run.{and_then, for_range}
-use Rattle.steps.specs.State.{State}
+use Rattle.std.proofs.Common.{◌≡◌, ◌*◌, ◌-◌}
+use Rattle.laws.specs.Run.{for_range}
+use Rattle.steps.specs.State.{Progress}
 use Rattle.steps.specs.Adjust.{delta4_at}
-use Rattle.stages.specs.View.{Small, delta_of, grouped}
+use Rattle.state.specs.Parts.{state_of}
+use Rattle.stages.specs.Deltas.{least_of, SmallOr}
 use Rattle.stages.proofs.delta.delta_four.Given as goal
 
 abbrev pub invariant-loop-b : goal.invariant-loop-b
-invariant-loop-b l =
-    (l.n ≤ l.b) × (l.b ≤ (2 * l.n)) × Small l.d × ((s : State) → and_then (delta_of l.d) (for_range (delta4_at (grouped l.bases l.parents l.labels l.duals s)) l.b ((2 * l.n) - l.b)) ≡ and_then (delta_of l.initial.d) (for_range (delta4_at (grouped l.bases l.parents l.labels l.duals s)) l.n l.n))
-
-abbrev pub decreases-loop-b : goal.decreases-loop-b
-decreases-loop-b l = (2 * l.n) - l.b
+invariant-loop-b l = record {
+  rest : (at : Progress) → for_range (delta4_at (state_of l.lists at)) l.b (2 * l.g.nodes - l.b) (least_of l.d)
+      ≡ for_range (delta4_at (state_of l.lists at)) l.g.nodes l.g.nodes (least_of l.fn.best);
+  small : SmallOr l.d;
+}

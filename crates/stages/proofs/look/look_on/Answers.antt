@@ -1,97 +1,29 @@
-use Rattle.std.proofs.Common.{rules, refl, ◌∙◌, ◌/◌, arith, get_or, length-set, w64, to_z}
-use mir.ValLaws.{to_z-of_z}
-use Rattle.laws.proofs.Runs.{told}
-use Rattle.matching.specs.Graph.{graph_of}
-use Rattle.numbers.specs.View.{got_group}
-use Rattle.steps.specs.Steps.{visit}
-use Rattle.stages.specs.Look.{looking}
-use Rattle.stages.specs.declared.look.Seen.TheVariants as seen
-use Rattle.stages.proofs.LookLaws.{looked_told, going_passed, going_owned}
+use Rattle.std.proofs.Common.{rules, arith, ◌∙◌, ◌≡◌, ◌/◌, slice_index}
+use Rattle.laws.specs.Run.{ok, at}
+use Rattle.matching.specs.Graph.{is_group}
+use Rattle.steps.specs.State.{Progress, searching}
+use Rattle.steps.specs.Stores.{put_best}
+use Rattle.state.specs.Parts.{state_of}
+use Rattle.stages.proofs.Looks.{owned, keen_now}
 use Rattle.stages.proofs.look.look_on.Goals as goal
-
-pub returns-in_default : goal.returns-in_default
-returns-in_default c = (omega arith, λ n edges he hw turns s more. refl)
-
-pub returns-then-b-best : goal.returns-then-b-best
-returns-then-b-best c = (omega arith, λ n edges he hw turns s more. refl)
-
-pub loop-i-init : goal.loop-i-init
-loop-i-init c =
-    let keenness = c.keenness-keen in
-    let if1 = c.if-b-best in
-    let number2 = c.number-b in
-    let x = to_z-of_z w64 keenness.result (search rules) in
-    (omega arith, number2.ensures, if1.false, refl, λ n edges he hw turns v s top more. (rw x (keenness.ensures (graph_of n edges) he hw), refl))
-
-pub overflow_add-i : goal.overflow_add-i
-overflow_add-i c = omega (arith, c.well_formed.1.1.1.1.1.1.1.1.0, c.loop-i-test.true)
-
-pub loop-i-smaller-in-Pass : goal.loop-i-smaller-in-Pass
-loop-i-smaller-in-Pass c = omega (arith, c.loop-i-test.true)
-
-pub loop-i-preserved-in-Pass : goal.loop-i-preserved-in-Pass
-loop-i-preserved-in-Pass c =
-    let look = c.look in
-    let loop_test = c.loop-i-test in
-    let loop = c.loop-i in
-    let a = c.args in (
-      omega (arith, loop.invariant.0),
-      loop.invariant.1,
-      loop.invariant.2,
-      loop.invariant.3,
-      λ n edges he hw turns v s top more.
-          let going = loop.invariant.4 n edges he hw turns v s top more in
-          going_passed turns (graph_of n edges) v s a.tops.now a.labels.now a.best.now a.allowed.now a.duals.now a.row.now a.from c.in-At.bv.0 loop.best (to_z w64 loop.keen-bits) loop.i more loop_test.true going (looked_told look.result seen.Pass (graph_of n edges) c.in-At.bv.0 (get_or a.row.now loop.i 0 / 2) (visit turns (graph_of n edges) v (get_or a.row.now loop.i 0) (looking a.tops.now a.labels.now loop.best a.allowed.now a.duals.now s)) (looking a.tops.now a.labels.now loop.best a.allowed.now a.duals.now s) c.in-Pass.is (look.ensures n edges he hw turns v s top going.0)),
-    )
-
-pub bounds-best-b : goal.bounds-best-b
-bounds-best-b c = c.loop-i.invariant.2
-
-pub overflow_add-i-in-Own : goal.overflow_add-i-in-Own
-overflow_add-i-in-Own c = omega (arith, c.well_formed.1.1.1.1.1.1.1.1.0, c.loop-i-test.true)
-
-pub loop-i-smaller : goal.loop-i-smaller
-loop-i-smaller c = omega (arith, c.loop-i-test.true)
 
 pub loop-i-preserved : goal.loop-i-preserved
 loop-i-preserved c =
-    let number3 = c.number-in-Own in
-    let edge = c.edge in
-    let look = c.look in
-    let loop_test = c.loop-i-test in
-    let loop = c.loop-i in
-    let number2 = c.number-b in
-    let a = c.args in
-    let x = to_z-of_z w64 c.in-Own.k (search rules) in (
-      omega (arith, loop.invariant.0),
-      loop.invariant.1,
-      rw (length-set loop.best number2.result number3.result) loop.invariant.2,
-      length-set loop.best number2.result number3.result ∙ loop.invariant.3,
-      λ n edges he hw turns v s top more.
-          let going = loop.invariant.4 n edges he hw turns v s top more in
-          rw x (going_owned turns (graph_of n edges) v s a.tops.now a.labels.now a.best.now a.allowed.now a.duals.now a.row.now a.from c.in-At.bv.0 loop.best (to_z w64 loop.keen-bits) loop.i more loop_test.true going c.in-Own.k number2.result number3.result loop.invariant.1 (number3.ensures ∙ edge.ensures) loop.invariant.2 (looked_told look.result (seen.Own c.in-Own.k) (graph_of n edges) c.in-At.bv.0 (get_or a.row.now loop.i 0 / 2) (visit turns (graph_of n edges) v (get_or a.row.now loop.i 0) (looking a.tops.now a.labels.now loop.best a.allowed.now a.duals.now s)) (looking a.tops.now a.labels.now loop.best a.allowed.now a.duals.now s) c.in-Own.is (look.ensures n edges he hw turns v s top going.0))),
-    )
-
-pub shape_of-best-in-Rest : goal.shape_of-best-in-Rest
-shape_of-best-in-Rest c = c.loop-i.invariant.3
-
-pub returns-in-Rest : goal.returns-in-Rest
-returns-in-Rest c =
-    let loop = c.loop-i in
-    let group-in = c.group_in in
-    let number = c.number in
-    let a = c.args in
-    let top = rw number.ensures at (told got_group group-in.ensures c.in-At.is) in
-    (loop.invariant.0, λ n edges he hw turns s more. (loop.invariant.4 n edges he hw turns a.v.0 s top more).1)
-
-pub shape_of-best : goal.shape_of-best
-shape_of-best c = c.loop-i.invariant.3
-
-pub returns : goal.returns
-returns c =
-    let loop = c.loop-i in
-    let group-in = c.group_in in
-    let number = c.number in
-    let a = c.args in
-    let top = rw number.ensures at (told got_group group-in.ensures c.in-At.is) in
-    (loop.invariant.0, λ n edges he hw turns s more. (loop.invariant.4 n edges he hw turns a.v.0 s top more).1)
+    let a = c.args in let l = c.loop-i in let g = a.g.now in
+    let b = c.in-Ok.group.0 in let e = slice_index a.row.now l.i / 2 in let s = c.put_best.new.self in
+    let top : at l.lists.forest.lists.tops a.v.0 ≡ ok b = rw l.invariant.tops c.in-Ok.ensures.said in
+    let put : (here : Progress) → put_best b e (state_of l.lists here) ≡ ok (state_of s here) =
+    λ here. rw (← c.edge.ensures) (c.in-Ok-put_best.ensures.said here) in
+    let here : Progress = record { stage = 0; phase = searching } in
+    let own = c.in-Own.ensures is_group here a.v.0 top l.invariant.keen in
+    let keen = keen_now g b e c.in-Own.k l.lists s here (put here) own.0 own.1 in
+    record {
+      past = omega (arith, l.invariant.past);
+      keen = search (rules, keen);
+      tops = search rules;
+      kids = search rules;
+      size = search rules;
+      rest = λ turns here o.
+          let seen = (c.in-Own.ensures turns here a.v.0 top l.invariant.keen).2 in
+          owned turns g a.v.0 l.i a.row.now (state_of l.lists here) (state_of s here) o c.loop-i-test.true (seen ∙ put here) ∙ l.invariant.rest turns here o;
+    }

@@ -1,22 +1,20 @@
-use Rattle.std.proofs.Common.{◌≡◌, Bool, false, List, ℕ, ◌-◌, ◌<◌, ◌≤◌, length}
-use Rattle.laws.specs.Run.{ok, at}
-use Rattle.matching.specs.Graph.{Edge, graph_of}
-use Rattle.numbers.specs.Edges.{ends_of, weights_of}
-use Rattle.steps.specs.State.{State}
+use Rattle.std.proofs.Common.{◌≡◌, ◌≤◌, ◌-◌, false, length}
+use Rattle.steps.specs.State.{Progress}
 use Rattle.steps.specs.Steps.{is_closing}
-use Rattle.stages.proofs.LookLaws.{Going}
+use Rattle.state.specs.Parts.{sized}
+use Rattle.stages.specs.Look.{Turns, Keen, visits_from}
 use Rattle.stages.proofs.look.look_on.Given as goal
-
-abbrev pub invariant-loop-i : goal.invariant-loop-i
-invariant-loop-i l =
-    (l.from ≤ l.i)
-    × (l.b ≡ l.bv.0)
-    × (l.b < length l.best)
-    × (length l.best ≡ length l.initial.best)
-    × ((n : ℕ) (edges : List Edge) → ends_of edges ≡ l.ends → weights_of edges ≡ l.weights → (turns : (n c : ℕ) → Bool) (v : ℕ) (s : State)
-    → at l.tops v ≡ ok l.bv.0
-    → is_closing s.progress.phase ≡ false
-    → Going turns (graph_of n edges) v s l.tops l.labels l.initial.best l.allowed l.duals l.row l.from l.bv.0 l.best l.keen l.i)
 
 abbrev pub decreases-loop-i : goal.decreases-loop-i
 decreases-loop-i l = length l.row - l.i
+
+abbrev pub invariant-loop-i : goal.invariant-loop-i
+invariant-loop-i l = record {
+  past : l.fn.from ≤ l.i;
+  keen : Keen l.g l.lists l.group.0 l.keen;
+  tops : l.lists.forest.lists.tops ≡ l.fn.lists.forest.lists.tops;
+  kids : l.lists.forest.kids ≡ l.fn.lists.forest.kids;
+  size : sized l.lists ≡ sized l.fn.lists;
+  rest : (turns : Turns) (at : Progress) → is_closing at.phase ≡ false
+      → visits_from turns l.g l.fn.v.0 l.row l.i l.lists at ≡ visits_from turns l.g l.fn.v.0 l.row l.fn.from l.fn.lists at;
+}

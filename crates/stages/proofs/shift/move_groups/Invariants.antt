@@ -1,14 +1,14 @@
-use Rattle.std.proofs.Common.{◌≡◌, ◌*◌, ◌-◌, ◌≤◌, length}
+use Rattle.std.proofs.Common.{◌≡◌, ◌*◌, ◌-◌}
 use Rattle.laws.specs.Run.{for_range}
-use Rattle.numbers.specs.Near.{Near}
-use Rattle.steps.specs.State.{State}
+use Rattle.steps.specs.State.{Progress}
 use Rattle.steps.specs.Adjust.{move_group}
-use Rattle.stages.specs.View.{grouped}
+use Rattle.state.specs.Parts.{state_of, sized}
 use Rattle.stages.proofs.shift.move_groups.Given as goal
 
 abbrev pub invariant-loop-b : goal.invariant-loop-b
-invariant-loop-b l =
-    (l.n ≤ l.b) × (l.b ≤ (2 * l.n)) × (length l.duals ≡ length l.initial.duals) × Near 4503599627370496 l.duals × ((s : State) → for_range (move_group l.delta) l.b ((2 * l.n) - l.b) (grouped l.bases l.parents l.labels l.duals s) ≡ for_range (move_group l.delta) l.n l.n (grouped l.bases l.parents l.labels l.initial.duals s))
-
-abbrev pub decreases-loop-b : goal.decreases-loop-b
-decreases-loop-b l = (2 * l.n) - l.b
+invariant-loop-b l = record {
+  rest : (at : Progress) → for_range (move_group l.delta) l.b (2 * l.g.nodes - l.b) (state_of l.lists at)
+      ≡ for_range (move_group l.delta) l.g.nodes l.g.nodes (state_of l.fn.lists at);
+  size : sized l.lists ≡ sized l.fn.lists;
+  kids : l.lists.forest.kids ≡ l.fn.lists.forest.kids;
+}

@@ -1,0 +1,21 @@
+-- The path back to the root. Definitions only.
+use Rattle.std.specs.Prelude.{◌≡◌, Bool, ℕ, Result, Ok, Err}
+use Rattle.laws.specs.Run.{Run, ok, fault}
+use Rattle.numbers.specs.declared.End.{End}
+use Rattle.numbers.specs.declared.faults.Fault.{Fault}
+use Rattle.steps.specs.Augment.{Trail, Reached}
+use Rattle.steps.specs.State.{State}
+use Rattle.augment.specs.declared.trail.Place.{Place}
+
+abbrev pub on_trail : (v p : ℕ) → Bool → State → Trail
+on_trail v p over s = record { v = v; p = p; over = over; state = s }
+
+-- the run x answers the end through which a group was reached, with the state s then
+abbrev pub Reaches : Run Reached → Result End Fault → State → Type 0
+Reaches x (Ok e) s = x ≡ ok (record { from = e.0; state = s })
+Reaches x (Err e) s = x ≡ fault
+
+-- the run x answers the next node and end, with the state s then
+abbrev pub Moves : Run Trail → Result Place Fault → State → Type 0
+Moves x (Ok k) s = x ≡ ok (on_trail k.v.0 k.p.0 k.over s)
+Moves x (Err e) s = x ≡ fault

@@ -1,0 +1,15 @@
+use Rattle.std.proofs.Common.{rules, ◌∙◌}
+use Rattle.state.specs.Parts.{state_of}
+use Rattle.grouping.proofs.ChildLaws.{gather_lost, gather_kept}
+use Rattle.grouping.proofs.best.gather.Goals as goal
+
+pub returns-in_err-consider_child-clause-said : goal.returns-in_err-consider_child-clause-said
+returns-in_err-consider_child-clause-said c at =
+    let a = c.args in
+    let e = gather_lost a.g.now a.new.0 a.c.0 a.links.now.links (state_of a.lists.now at) (c.in_err-consider_child.ensures.said at) in
+    search (e, rules)
+
+pub returns-clause-said : goal.returns-clause-said
+returns-clause-said c at =
+    let a = c.args in
+    gather_kept a.g.now a.new.0 a.c.0 a.links.now.links (state_of a.lists.now at) _ (c.in_ok-consider_child.ensures.said at) ∙ search rules

@@ -1,0 +1,17 @@
+use Rattle.std.proofs.Common.{rules, ◌∙◌}
+use Rattle.state.specs.Parts.{state_of}
+use Rattle.grouping.proofs.ChildLaws.{own_some}
+use Rattle.grouping.proofs.consider.consider_child.Goals as goal
+
+pub returns-in_err-consider_edges-clause-said : goal.returns-in_err-consider_edges-clause-said
+returns-in_err-consider_edges-clause-said c at =
+    let a = c.args in
+    let e = own_some a.g.now (state_of a.lists.now at) a.new.0 a.c.0 a.links.now.links c.in_ok-own.own.now c.in_ok-own.ensures.said c.if-own-eq0.false
+    ∙ c.in_err-consider_edges.ensures.said at in
+    search (e, rules)
+
+pub returns-in_ok-consider_edges-clause-said : goal.returns-in_ok-consider_edges-clause-said
+returns-in_ok-consider_edges-clause-said c at =
+    let a = c.args in
+    own_some a.g.now (state_of a.lists.now at) a.new.0 a.c.0 a.links.now.links c.in_ok-own.own.now c.in_ok-own.ensures.said c.if-own-eq0.false
+    ∙ c.in_ok-consider_edges.ensures.said at

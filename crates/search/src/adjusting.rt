@@ -1,0 +1,99 @@
+// Adjusting the duals with what follows, and the groups that a stage's end expands.
+ghost use Rattle.std.specs.Prelude.{◌≡◌};
+ghost use Rattle.laws.specs.Run.{for_range};
+ghost use Rattle.steps.specs.State.{Progress};
+ghost use Rattle.steps.specs.Steps.{close_group as close_group_of};
+ghost use Rattle.steps.specs.Adjust.{follow as follow_of, adjust_duals as adjust_duals_of};
+ghost use Rattle.numbers.specs.Answers.{Agrees};
+ghost use Rattle.state.specs.Parts.{state_of, sized, size_of};
+ghost use Rattle.stages.specs.Deltas.{amount_of, Small};
+ghost use Rattle.search.specs.Visits.{Follows};
+
+use crate::scratch::Scratch;
+use edges::graph::Graph;
+use numbers::Group;
+use numbers::faults::Fault;
+use stages::delta::{Delta, choose};
+use stages::follow::{follow_three, follow_two};
+use stages::shift::move_duals;
+use state::lists::Lists;
+
+// The duals move by an amount, and what its type says follows. The answer is whether the search ends.
+#[tactic(auto, unfolding(steps::specs::Adjust::follow))]
+fn follow(g: &Graph, lists: &mut Lists, scratch: &mut Scratch, d: Delta) -> Result<bool, Fault>
+    requires ready { (sized lists.old ≡ size_of g.now) × (scratch.old ≡ g.now.nodes) }
+    requires small { Small d }
+    ensures said { (at : Progress) → Follows (follow_of g.now (amount_of d) (state_of lists.old at)) result lists.new at }
+    ensures size { sized lists.new ≡ sized lists.old }
+    ensures room { scratch.new ≡ scratch.old }
+{
+    match d {
+        Delta::One(k) => {
+            move_duals(g, lists, k)?;
+            Ok(true)
+        }
+        Delta::Two(k, e) => {
+            move_duals(g, lists, k)?;
+            follow_two(g, lists, e)?;
+            Ok(false)
+        }
+        Delta::Three(k, e) => {
+            move_duals(g, lists, k)?;
+            follow_three(g, lists, e)?;
+            Ok(false)
+        }
+        Delta::Four(k, b) => {
+            move_duals(g, lists, k)?;
+            scratch.expand(g, lists, false, b)?;
+            Ok(false)
+        }
+    }
+}
+
+// By the least amount.
+#[tactic(auto, unfolding(steps::specs::Adjust::adjust_duals))]
+pub fn adjust(
+    g: &Graph,
+    lists: &mut Lists,
+    scratch: &mut Scratch,
+    flag: bool,
+) -> Result<bool, Fault>
+    requires { (sized lists.old ≡ size_of g.now) × (scratch.old ≡ g.now.nodes) }
+    ensures said { (at : Progress) → Follows (adjust_duals_of g.now flag (state_of lists.old at)) result lists.new at }
+    ensures size { sized lists.new ≡ sized lists.old }
+    ensures room { scratch.new ≡ scratch.old }
+{
+    let d = choose(g, lists, flag)?;
+    let ended = follow(g, lists, scratch, d)?;
+    Ok(ended)
+}
+
+// An outermost label-1 group with dual 0 is expanded.
+#[tactic(auto, unfolding(steps::specs::Steps::close_group))]
+fn close_group(g: &Graph, lists: &mut Lists, scratch: &mut Scratch, b: Group) -> Result<(), Fault>
+    requires { (sized lists.old ≡ size_of g.now) × (scratch.old ≡ g.now.nodes) }
+    ensures said { (at : Progress) → Agrees (close_group_of g.now b.0 (state_of lists.old at)) result (state_of lists.new at) }
+    ensures size { sized lists.new ≡ sized lists.old }
+    ensures room { scratch.new ≡ scratch.old }
+{
+    let outermost = lists.is_outermost(b)?;
+    let l = lists.label(b.0)?;
+    let d = lists.dual(b.0)?;
+    if outermost && l == 1 && d == 0 {
+        scratch.expand(g, lists, true, b)?;
+    }
+    Ok(())
+}
+
+#[tactic(auto, using(laws::proofs::Ranges::ranges))]
+pub fn close_groups(g: &Graph, lists: &mut Lists, scratch: &mut Scratch) -> Result<(), Fault>
+    requires { (sized lists.old ≡ size_of g.now) × (scratch.old ≡ g.now.nodes) }
+    ensures said { (at : Progress) → Agrees (for_range (close_group_of g.now) g.now.nodes g.now.nodes (state_of lists.old at)) result (state_of lists.new at) }
+    ensures size { sized lists.new ≡ sized lists.old }
+    ensures room { scratch.new ≡ scratch.old }
+{
+    for b in g.nodes()..g.numbers() {
+        close_group(g, lists, scratch, Group(b))?;
+    }
+    Ok(())
+}

@@ -1,0 +1,76 @@
+// What is kept of an edge that is passed: the node that it reaches, or the edge itself as the best one yet.
+ghost use Rattle.std.specs.Prelude.{◌≡◌};
+ghost use Rattle.steps.specs.State.{Progress};
+ghost use Rattle.steps.specs.Steps.{reach as reach_of, keep_best as keep_best_of, keep_edge as keep_edge_of};
+ghost use Rattle.numbers.specs.Answers.{Agrees};
+ghost use Rattle.state.specs.Parts.{state_of, sized};
+
+use edges::graph::Graph;
+use numbers::faults::{Fault, must};
+use numbers::{Edge, End, MISSING, Node};
+use state::lists::Lists;
+
+// The node that an edge leads to, the label of its outermost group and its own.
+#[derive(Clone, Copy, Debug, PartialEq, Eq)]
+pub struct Met {
+    pub node: Node,
+    pub group_label: u16,
+    pub label: u16,
+}
+
+// A node of a label-2 group is reached for the first time.
+#[tactic(auto, unfolding(steps::specs::Steps::reach))]
+pub fn reach(lists: &mut Lists, w: Node, p: End) -> Result<(), Fault>
+    ensures said { (at : Progress) → Agrees (reach_of w.0 p.0 (state_of lists.old at)) result (state_of lists.new at) }
+    ensures size { sized lists.new ≡ sized lists.old }
+    ensures kids { lists.new.forest.kids ≡ lists.old.forest.kids }
+{
+    let t = lists.top(w)?;
+    let l = lists.label(t.0)?;
+    must(l == 2)?;
+    lists.put_label(w.0, 2)?;
+    lists.put_label_end(w.0, p.beside())?;
+    Ok(())
+}
+
+// The edge e of slack k is the best one yet at node or group i.
+#[tactic(auto, unfolding(steps::specs::Steps::keep_best))]
+fn keep_best(g: &Graph, lists: &mut Lists, i: u16, e: Edge, k: i64) -> Result<(), Fault>
+    ensures said { (at : Progress) → Agrees (keep_best_of g.now i e.0 k (state_of lists.old at)) result (state_of lists.new at) }
+    ensures size { sized lists.new ≡ sized lists.old }
+    ensures kids { lists.new.forest.kids ≡ lists.old.forest.kids }
+{
+    let b = lists.best(i)?;
+    if b.0 == MISSING {
+        lists.put_best(i, e)?;
+        return Ok(());
+    }
+    let d = lists.slack(g, b)?;
+    if k < d {
+        lists.put_best(i, e)?;
+    }
+    Ok(())
+}
+
+// The edge e is not allowed: it is kept for the group of v, or for the free node that it leads to.
+#[tactic(auto, unfolding(steps::specs::Steps::keep_edge))]
+pub fn keep_edge(
+    g: &Graph,
+    lists: &mut Lists,
+    v: Node,
+    met: Met,
+    e: Edge,
+    k: i64,
+) -> Result<(), Fault>
+    ensures said { (at : Progress) → Agrees (keep_edge_of g.now v.0 met.node.0 e.0 met.group_label met.label k (state_of lists.old at)) result (state_of lists.new at) }
+    ensures size { sized lists.new ≡ sized lists.old }
+    ensures kids { lists.new.forest.kids ≡ lists.old.forest.kids }
+{
+    if met.group_label == 1 {
+        let b = lists.top(v)?;
+        keep_best(g, lists, b.0, e, k)?;
+    } else if met.label == 0 {
+        keep_best(g, lists, met.node.0, e, k)?;
+    }
+    Ok(())
+}

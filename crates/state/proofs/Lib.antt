@@ -1,0 +1,9 @@
+pub mod Rows
+pub mod ScanLaws
+pub mod Duals
+pub mod KidsLaws
+pub mod Pops
+pub mod Unstored
+pub mod Emptied
+pub mod Empty
+pub mod OuterLaws

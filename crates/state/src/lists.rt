@@ -1,0 +1,338 @@
+// The lists of the search in the definition's three parts. A routine above takes them by one reference.
+ghost use Rattle.std.specs.Prelude.{◌≡◌, ◌+◌, ◌*◌, ◌≤◌, ◌<◌, [], nat_abs, length};
+ghost use Rattle.std.specs.Result.{IfOk};
+ghost use Rattle.laws.specs.Run.{at};
+ghost use Rattle.steps.specs.State.{Progress};
+ghost use Rattle.steps.specs.Stores.{put_top, put_parent, put_base, put_children, put_ring_ends, put_label, put_label_end, put_best, put_best_list, put_allowed, put_mate, put_dual};
+ghost use Rattle.steps.specs.Label.{base_mate as base_mate_of, enqueue as enqueue_of};
+ghost use Rattle.steps.specs.Leaves.{leaves as leaves_of};
+ghost use Rattle.steps.specs.Ends.{slack_of, tighter as tighter_of};
+ghost use Rattle.numbers.specs.Answers.{Answers, AnswersNode, AnswersEdge, AnswersEnd, AnswersGroup, AnswersRow, RowFits, Agrees, Kept};
+ghost use Rattle.state.specs.Parts.{state_of, sized, size_of};
+
+use crate::forest::Forest;
+use crate::labelling::Labelling;
+use crate::pairing::Pairing;
+use crate::pools::Stack;
+use edges::graph::Graph;
+use numbers::faults::{Fault, present};
+use numbers::{Edge, End, Group, Node};
+use std::marker::Model;
+
+// The graph is not among them: it is lent for reading while the lists change, so that the two are of one size is a clause.
+#[derive(Drop)]
+pub struct Lists<'a> {
+    pub(crate) forest: Forest<'a>,
+    pub(crate) labelling: Labelling<'a>,
+    pub(crate) pairing: Pairing<'a>,
+}
+
+impl<'a> Model for Lists<'a> {
+    ghost use Rattle.std.specs.Prelude.{◌≡◌};
+    ghost use Rattle.state.specs.Parts.{Parts};
+
+    ghost Value = { Parts };
+
+    ghost view = { λ s. record { forest = s.forest; labels = s.labelling; pairing = s.pairing } };
+
+    ghost invariant = { λ s. (s.forest.nodes ≡ s.labelling.size.nodes) × (s.pairing.nodes ≡ s.labelling.size.nodes) };
+}
+
+impl<'a> Lists<'a> {
+    pub fn new(forest: Forest<'a>, labelling: Labelling<'a>, pairing: Pairing<'a>) -> Lists<'a>
+        requires { (forest.nodes ≡ labelling.size.nodes) × (pairing.nodes ≡ labelling.size.nodes) }
+        ensures { result ≡ record { forest = forest.entry; labels = labelling.entry; pairing = pairing.entry } }
+    {
+        Lists {
+            forest,
+            labelling,
+            pairing,
+        }
+    }
+
+    // ---- reads
+
+    // A method for each list, and none that takes which list: each clause names the definition's list.
+
+    // The outermost group of node v.
+    pub fn top(&self, v: Node) -> Result<Group, Fault>
+        ensures said { AnswersGroup (at self.now.forest.lists.tops v.0) result }
+        ensures near { IfOk result (λ b. v.0 < self.now.labels.size.nodes) }
+    {
+        self.forest.top(v)
+    }
+
+    // The base of group b, missing where the group is not in use.
+    pub fn base(&self, b: Group) -> Result<Node, Fault>
+        ensures said { AnswersNode (at self.now.forest.lists.bases b.0) result }
+        ensures near { IfOk result (λ v. b.0 < 2 * self.now.labels.size.nodes) }
+    {
+        self.forest.base(b)
+    }
+
+    // The group that holds b, which may be missing.
+    pub fn parent(&self, b: Group) -> Result<Group, Fault>
+        ensures said { AnswersGroup (at self.now.forest.lists.parents b.0) result }
+        ensures near { IfOk result (λ p. b.0 < 2 * self.now.labels.size.nodes) }
+    {
+        self.forest.parent(b)
+    }
+
+    // The children of b, round the ring.
+    pub fn children(&self, b: Group) -> Result<&[u16], Fault>
+        ensures said { AnswersRow (at self.now.forest.lists.children b.0) result }
+        ensures fits { RowFits result }
+    {
+        self.forest.children(b)
+    }
+
+    // The end at each child of b to the next.
+    pub fn ring_ends(&self, b: Group) -> Result<&[u16], Fault>
+        ensures said { AnswersRow (at self.now.forest.lists.ring_ends b.0) result }
+        ensures fits { RowFits result }
+    {
+        self.forest.ring_ends(b)
+    }
+
+    // The label of a node or group.
+    pub fn label(&self, i: u16) -> Result<u16, Fault>
+        ensures { Answers (at self.now.labels.lists.labels i) result }
+    {
+        self.labelling.label(i)
+    }
+
+    // The end through which b got its label, missing at a root.
+    pub fn label_end(&self, b: Group) -> Result<End, Fault>
+        ensures { AnswersEnd (at self.now.labels.lists.label_ends b.0) result }
+    {
+        self.labelling.label_end(b)
+    }
+
+    // The best edge at a node or group, which may be missing.
+    pub fn best(&self, i: u16) -> Result<Edge, Fault>
+        ensures { AnswersEdge (at self.now.labels.lists.best i) result }
+    {
+        self.labelling.best(i)
+    }
+
+    // The candidates of b.
+    pub fn best_list(&self, b: Group) -> Result<&[u16], Fault>
+        ensures said { AnswersRow (at self.now.labels.lists.best_lists b.0) result }
+        ensures fits { RowFits result }
+    {
+        self.labelling.best_list(b)
+    }
+
+    pub fn is_allowed(&self, e: Edge) -> Result<bool, Fault>
+        ensures { Answers (at self.now.labels.lists.allowed e.0) result }
+    {
+        self.labelling.is_allowed(e)
+    }
+
+    // The end at the mate of node v, which may be missing.
+    pub fn mate(&self, v: Node) -> Result<End, Fault>
+        ensures { AnswersEnd (at self.now.pairing.lists.mates v.0) result }
+    {
+        self.pairing.mate(v)
+    }
+
+    // The dual of a node or group.
+    pub fn dual(&self, i: u16) -> Result<i64, Fault>
+        ensures said { Answers (at self.now.pairing.lists.duals i) result }
+        ensures near { IfOk result (λ d. nat_abs d ≤ 4503599627370496) }
+    {
+        self.pairing.dual(i)
+    }
+
+    // The two duals at edge e less twice its weight.
+    pub fn slack(&self, g: &Graph, e: Edge) -> Result<i64, Fault>
+        ensures said { Answers (slack_of g.now self.now.pairing.lists.duals e.0) result }
+        ensures near { IfOk result (λ k. nat_abs k ≤ 18014398509481984) }
+    {
+        self.pairing.slack(g, e)
+    }
+
+    // Whether the slack of edge d is below that of edge e.
+    pub fn tighter(&self, g: &Graph, d: Edge, e: Edge) -> Result<bool, Fault>
+        ensures { Answers (tighter_of g.now self.now.pairing.lists.duals d.0 e.0) result }
+    {
+        self.pairing.tighter(g, d, e)
+    }
+
+    // The nodes of b go on the end of out.
+    pub fn leaves(&self, g: &Graph, b: Group, out: &mut Stack) -> Result<(), Fault>
+        ensures said { Agrees (leaves_of g.now.nodes out.old.room self.now.forest.lists.children g.now.nodes b.0 out.old.entries) result out.new.entries }
+        ensures room { out.new.room ≡ out.old.room }
+    {
+        self.forest.leaves(g.nodes(), b, out)?;
+        Ok(())
+    }
+
+    // The mate of a group's base, which may be missing.
+    #[tactic(auto, unfolding(steps::specs::Label::base_mate))]
+    pub fn base_mate(&self, b: Group) -> Result<End, Fault>
+        ensures { (at : Progress) → AnswersEnd (base_mate_of (state_of self.now at) b.0) result }
+    {
+        let base = self.forest.base(b)?;
+        present(base.0)?;
+        self.pairing.mate(base)
+    }
+
+    // ---- stores
+
+    pub fn put_top(&mut self, v: Node, b: Group) -> Result<(), Fault>
+        ensures said { (at : Progress) → Agrees (put_top v.0 b.0 (state_of self.old at)) result (state_of self.new at) }
+        ensures size { sized self.new ≡ sized self.old }
+        ensures kids { self.new.forest.kids ≡ self.old.forest.kids }
+    {
+        self.forest.set_top(v, b)?;
+        Ok(())
+    }
+
+    pub fn put_parent(&mut self, b: Group, to: Group) -> Result<(), Fault>
+        ensures said { (at : Progress) → Agrees (put_parent b.0 to.0 (state_of self.old at)) result (state_of self.new at) }
+        ensures size { sized self.new ≡ sized self.old }
+        ensures kids { self.new.forest.kids ≡ self.old.forest.kids }
+    {
+        self.forest.set_parent(b, to)?;
+        Ok(())
+    }
+
+    pub fn put_base(&mut self, b: Group, v: Node) -> Result<(), Fault>
+        ensures said { (at : Progress) → Agrees (put_base b.0 v.0 (state_of self.old at)) result (state_of self.new at) }
+        ensures size { sized self.new ≡ sized self.old }
+        ensures kids { self.new.forest.kids ≡ self.old.forest.kids }
+    {
+        self.forest.set_base(b, v)?;
+        Ok(())
+    }
+
+    // The children of group b become these.
+    pub fn put_children(&mut self, b: Group, items: &[u16]) -> Result<(), Fault>
+        requires { (self.old.labels.size.nodes ≤ b.0) × (length items.now ≤ self.old.labels.size.nodes) }
+        ensures said { (at : Progress) → Agrees (put_children b.0 items.now (state_of self.old at)) result (state_of self.new at) }
+        ensures size { sized self.new ≡ sized self.old }
+    {
+        self.forest.set_children(b, items)?;
+        Ok(())
+    }
+
+    // The ring ends of group b become these.
+    pub fn put_ring_ends(&mut self, b: Group, items: &[u16]) -> Result<(), Fault>
+        requires { (self.old.labels.size.nodes ≤ b.0) × (length items.now ≤ self.old.labels.size.nodes) }
+        ensures said { (at : Progress) → Agrees (put_ring_ends b.0 items.now (state_of self.old at)) result (state_of self.new at) }
+        ensures size { sized self.new ≡ sized self.old }
+        ensures kids { self.new.forest.kids ≡ self.old.forest.kids }
+    {
+        self.forest.set_ring_ends(b, items)?;
+        Ok(())
+    }
+
+    // Group b has no children any more.
+    pub fn clear_children(&mut self, b: Group) -> Result<(), Fault>
+        ensures said { (at : Progress) → Agrees (put_children b.0 [] (state_of self.old at)) result (state_of self.new at) }
+        ensures size { sized self.new ≡ sized self.old }
+        ensures kids { self.new.forest.kids ≡ self.old.forest.kids }
+    {
+        self.forest.clear_children(b)?;
+        Ok(())
+    }
+
+    pub fn clear_ring_ends(&mut self, b: Group) -> Result<(), Fault>
+        ensures said { (at : Progress) → Agrees (put_ring_ends b.0 [] (state_of self.old at)) result (state_of self.new at) }
+        ensures size { sized self.new ≡ sized self.old }
+        ensures kids { self.new.forest.kids ≡ self.old.forest.kids }
+    {
+        self.forest.clear_ring_ends(b)?;
+        Ok(())
+    }
+
+    pub fn put_label(&mut self, i: u16, t: u16) -> Result<(), Fault>
+        ensures said { (at : Progress) → Agrees (put_label i t (state_of self.old at)) result (state_of self.new at) }
+        ensures size { sized self.new ≡ sized self.old }
+        ensures kids { self.new.forest.kids ≡ self.old.forest.kids }
+    {
+        self.labelling.set_label(i, t)?;
+        Ok(())
+    }
+
+    pub fn put_label_end(&mut self, i: u16, p: End) -> Result<(), Fault>
+        ensures said { (at : Progress) → Agrees (put_label_end i p.0 (state_of self.old at)) result (state_of self.new at) }
+        ensures size { sized self.new ≡ sized self.old }
+        ensures kids { self.new.forest.kids ≡ self.old.forest.kids }
+    {
+        self.labelling.set_label_end(i, p)?;
+        Ok(())
+    }
+
+    pub fn put_best(&mut self, i: u16, e: Edge) -> Result<(), Fault>
+        ensures said { (at : Progress) → Agrees (put_best i e.0 (state_of self.old at)) result (state_of self.new at) }
+        ensures size { sized self.new ≡ sized self.old }
+        ensures kept { Kept result self.old self.new }
+        ensures kids { self.new.forest.kids ≡ self.old.forest.kids }
+    {
+        self.labelling.set_best(i, e)?;
+        Ok(())
+    }
+
+    // The candidates of group b become these.
+    pub fn put_best_list(&mut self, b: Group, items: &[u16]) -> Result<(), Fault>
+        requires { (self.old.labels.size.nodes ≤ b.0) × (length items.now ≤ self.old.labels.size.nodes) }
+        ensures said { (at : Progress) → Agrees (put_best_list b.0 items.now (state_of self.old at)) result (state_of self.new at) }
+        ensures size { sized self.new ≡ sized self.old }
+        ensures kids { self.new.forest.kids ≡ self.old.forest.kids }
+    {
+        self.labelling.set_best_list(b, items)?;
+        Ok(())
+    }
+
+    // A node or group has no candidates any more.
+    pub fn clear_best_list(&mut self, b: Group) -> Result<(), Fault>
+        ensures said { (at : Progress) → Agrees (put_best_list b.0 [] (state_of self.old at)) result (state_of self.new at) }
+        ensures size { sized self.new ≡ sized self.old }
+        ensures kids { self.new.forest.kids ≡ self.old.forest.kids }
+    {
+        self.labelling.clear_best_list(b)?;
+        Ok(())
+    }
+
+    pub fn put_allowed(&mut self, e: Edge, allowed: bool) -> Result<(), Fault>
+        ensures said { (at : Progress) → Agrees (put_allowed e.0 allowed (state_of self.old at)) result (state_of self.new at) }
+        ensures size { sized self.new ≡ sized self.old }
+        ensures kids { self.new.forest.kids ≡ self.old.forest.kids }
+    {
+        self.labelling.set_allowed(e, allowed)?;
+        Ok(())
+    }
+
+    pub fn put_mate(&mut self, v: Node, p: End) -> Result<(), Fault>
+        ensures said { (at : Progress) → Agrees (put_mate v.0 p.0 (state_of self.old at)) result (state_of self.new at) }
+        ensures size { sized self.new ≡ sized self.old }
+        ensures kids { self.new.forest.kids ≡ self.old.forest.kids }
+    {
+        self.pairing.set_mate(v, p)?;
+        Ok(())
+    }
+
+    // The dual of a node or group becomes d, which is within 2^52 of zero.
+    pub fn put_dual(&mut self, i: u16, d: i64) -> Result<(), Fault>
+        requires { nat_abs d ≤ 4503599627370496 }
+        ensures said { (at : Progress) → Agrees (put_dual i d (state_of self.old at)) result (state_of self.new at) }
+        ensures size { sized self.new ≡ sized self.old }
+        ensures kids { self.new.forest.kids ≡ self.old.forest.kids }
+    {
+        self.pairing.set_dual(i, d)?;
+        Ok(())
+    }
+
+    // Node v goes on the end of the queue, which holds at most 2n.
+    pub fn enqueue(&mut self, g: &Graph, v: Node) -> Result<(), Fault>
+        requires { sized self.old ≡ size_of g.now }
+        ensures said { (at : Progress) → Agrees (enqueue_of g.now v.0 (state_of self.old at)) result (state_of self.new at) }
+        ensures size { sized self.new ≡ sized self.old }
+        ensures kids { self.new.forest.kids ≡ self.old.forest.kids }
+    {
+        self.labelling.enqueue(g, v)?;
+        Ok(())
+    }
+}

@@ -1,0 +1,91 @@
+// The pairing: mates and duals.
+ghost use Rattle.std.specs.Prelude.{◌≡◌, ◌*◌, ◌≤◌, ◌<◌, nat_abs, length};
+ghost use Rattle.std.specs.Result.{IfOk};
+ghost use Rattle.laws.specs.Run.{at};
+ghost use Rattle.steps.specs.State.{Forest as ForestOf, Labelling as LabellingOf, Progress};
+ghost use Rattle.steps.specs.Stores.{put_mate, put_dual};
+ghost use Rattle.steps.specs.Ends.{slack_of, tighter as tighter_of};
+ghost use Rattle.numbers.specs.Answers.{Answers, AnswersEnd, Agrees};
+ghost use Rattle.state.specs.Parts.{whole};
+ghost use Rattle.state.specs.Views.{PairsFit};
+
+use edges::graph::Graph;
+use numbers::faults::{Fault, read, store};
+use numbers::{Edge, End, Node};
+use std::marker::Model;
+
+#[derive(Drop)]
+pub struct Pairing<'a> {
+    pub(crate) n: u16,
+    pub(crate) mates: &'a mut [u16],
+    pub(crate) duals: &'a mut [i64],
+}
+
+impl<'a> Model for Pairing<'a> {
+    ghost use Rattle.state.specs.Parts.{Pairs};
+    ghost use Rattle.state.specs.Views.{PairsFit};
+
+    ghost Value = { Pairs };
+
+    ghost view = { λ s. record { lists = record { mates = s.mates.now; duals = s.duals.now }; nodes = s.n } };
+
+    ghost invariant = { λ s. PairsFit s.n s.mates.now s.duals.now };
+}
+
+impl<'a> Pairing<'a> {
+    pub fn new(n: u16, mates: &'a mut [u16], duals: &'a mut [i64]) -> Pairing<'a>
+        requires { PairsFit n mates.old duals.old }
+        ensures lists { result.lists ≡ record { mates = mates.old; duals = duals.old } }
+        ensures nodes { result.nodes ≡ n }
+    {
+        Pairing { n, mates, duals }
+    }
+
+    // The end at the mate of node v, which may be missing.
+    pub fn mate(&self, v: Node) -> Result<End, Fault>
+        ensures { AnswersEnd (at self.now.lists.mates v.0) result }
+    {
+        let p = read(self.mates, v.0)?;
+        Ok(End(p))
+    }
+
+    // The dual of a node or group.
+    pub fn dual(&self, i: u16) -> Result<i64, Fault>
+        ensures said { Answers (at self.now.lists.duals i) result }
+        ensures near { IfOk result (λ d. nat_abs d ≤ 4503599627370496) }
+    {
+        read(self.duals, i)
+    }
+
+    pub fn set_mate(&mut self, v: Node, p: End) -> Result<(), Fault>
+        ensures said { (f : ForestOf) (l : LabellingOf) (at : Progress) → Agrees (put_mate v.0 p.0 (whole f l self.old.lists at)) result (whole f l self.new.lists at) }
+        ensures size { self.new.nodes ≡ self.old.nodes }
+    {
+        store(self.mates, v.0, p.0)?;
+        Ok(())
+    }
+
+    pub fn set_dual(&mut self, i: u16, d: i64) -> Result<(), Fault>
+        requires { nat_abs d ≤ 4503599627370496 }
+        ensures said { (f : ForestOf) (l : LabellingOf) (at : Progress) → Agrees (put_dual i d (whole f l self.old.lists at)) result (whole f l self.new.lists at) }
+        ensures size { self.new.nodes ≡ self.old.nodes }
+    {
+        store(self.duals, i, d)?;
+        Ok(())
+    }
+
+    // The two duals at edge e less twice its weight.
+    pub fn slack(&self, g: &Graph, e: Edge) -> Result<i64, Fault>
+        ensures said { Answers (slack_of g.now self.now.lists.duals e.0) result }
+        ensures near { IfOk result (λ k. nat_abs k ≤ 18014398509481984) }
+    {
+        g.slack(self.duals, e)
+    }
+
+    // Whether the slack of edge d is below that of edge e.
+    pub fn tighter(&self, g: &Graph, d: Edge, e: Edge) -> Result<bool, Fault>
+        ensures { Answers (tighter_of g.now self.now.lists.duals d.0 e.0) result }
+    {
+        g.tighter(self.duals, d, e)
+    }
+}

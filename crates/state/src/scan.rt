@@ -1,0 +1,152 @@
+// A walk back from two nodes by turns. The first group met twice ends it, and its base is the answer; else missing.
+// The groups that the walk has passed are marked in a copy of the labels, so the labels need no restoring.
+ghost use Rattle.std.specs.Prelude.{if◌then◌else◌, ◌≡◌, ◌*◌, false, length};
+ghost use Rattle.matching.specs.Graph.{missing, is_missing};
+ghost use Rattle.steps.specs.State.{Progress};
+ghost use Rattle.steps.specs.Scan.{over_label2, step_back as step_back_of, pass_on as pass_on_of, walk_move as walk_move_of, scan as scan_of};
+ghost use Rattle.numbers.specs.Answers.{AnswersNode};
+ghost use Rattle.state.specs.Parts.{state_of};
+ghost use Rattle.state.specs.Walks.{walk_of, stopped, Walks};
+
+use crate::lists::Lists;
+use edges::graph::Graph;
+use numbers::faults::{Fault, must, present, read, store};
+use numbers::{End, Group, MISSING, Node};
+
+// The two places of a walk, of which v moves next, and the base where a mark is met. A flag beside them, as in the definition's record.
+#[derive(Clone, Copy)]
+pub struct Walk {
+    pub v: Node,
+    pub w: Node,
+    pub met: bool,
+    pub base: Node,
+}
+
+// A mark is met, or both paths have ended.
+fn ended(k: Walk) -> bool
+    ensures { result ≡ stopped k.met k.v.0 k.w.0 }
+{
+    if k.met {
+        true
+    } else if k.v.0 == MISSING {
+        k.w.0 == MISSING
+    } else {
+        false
+    }
+}
+
+// The walk after a step back to x: the other path has the next turn unless it has ended.
+fn next_turn(w: Node, x: Node) -> Walk
+    ensures v { result.v.0 ≡ (if is_missing w.0 then x.0 else w.0) }
+    ensures w { result.w.0 ≡ (if is_missing w.0 then missing else x.0) }
+    ensures none { (result.met ≡ false) × (result.base.0 ≡ missing) }
+{
+    let base = Node(MISSING);
+    if w.0 == MISSING {
+        Walk {
+            v: x,
+            w: base,
+            met: false,
+            base,
+        }
+    } else {
+        Walk {
+            v: w,
+            w: x,
+            met: false,
+            base,
+        }
+    }
+}
+
+impl<'a> Lists<'a> {
+    // From the end e through which a label-1 group was reached, over the label-2 group there, to a node of the group before.
+    #[tactic(auto, unfolding(steps::specs::Scan::over_label2))]
+    pub fn over_label_two(&self, g: &Graph, marks: &[u16], e: End) -> Result<Node, Fault>
+        ensures { (at : Progress) → AnswersNode (over_label2 g.now (state_of self.now at) marks.now e.0) result }
+    {
+        let u = g.endpoint(e)?;
+        let t = self.forest.top(u)?;
+        let l = read(marks, t.0)?;
+        must(l == 2)?;
+        let f = self.labelling.label_end(t)?;
+        present(f.0)?;
+        g.endpoint(f)
+    }
+
+    // One step back from the label-1 group b; missing at a root.
+    #[tactic(auto, unfolding(steps::specs::Scan::step_back))]
+    pub fn step_back(&self, g: &Graph, marks: &[u16], b: Group) -> Result<Node, Fault>
+        ensures { (at : Progress) → AnswersNode (step_back_of g.now (state_of self.now at) marks.now b.0) result }
+    {
+        let e = self.labelling.label_end(b)?;
+        let m = self.base_mate(b)?;
+        must(e.0 == m.0)?;
+        if e.0 == MISSING {
+            return Ok(Node(MISSING));
+        }
+        let v = self.over_label_two(g, marks, e)?;
+        Ok(v)
+    }
+
+    // Group b is marked, and its path goes one step back.
+    #[tactic(auto, unfolding(steps::specs::Scan::pass_on))]
+    pub fn pass_on(&self, g: &Graph, marks: &mut [u16], b: Group, k: Walk) -> Result<Walk, Fault>
+        ensures { (at : Progress) → Walks (pass_on_of g.now (state_of self.now at) b.0 (walk_of k marks.old)) result marks.new }
+    {
+        let l = read(marks, b.0)?;
+        must(l == 1)?;
+        store(marks, b.0, 5)?;
+        let x = self.step_back(g, marks, b)?;
+        Ok(next_turn(k.w, x))
+    }
+
+    // The turn of the path that stands at v.
+    #[tactic(auto, unfolding(steps::specs::Scan::walk_move, steps::specs::Scan::meet))]
+    pub fn walk_move(&self, g: &Graph, marks: &mut [u16], k: Walk) -> Result<Walk, Fault>
+        ensures { (at : Progress) → Walks (walk_move_of g.now (state_of self.now at) (walk_of k marks.old)) result marks.new }
+    {
+        present(k.v.0)?;
+        let b = self.forest.top(k.v)?;
+        let l = read(marks, b.0)?;
+        if l == MISSING || l / 4 % 2 == 1 {
+            let base = self.forest.base(b)?;
+            return Ok(Walk {
+                v: k.v,
+                w: k.w,
+                met: true,
+                base,
+            });
+        }
+        let next = self.pass_on(g, marks, b, k)?;
+        Ok(next)
+    }
+
+    // The base where the paths from a and from b meet, or missing; at most 2n turns. Marks is room for a copy of the labels.
+    #[tactic(auto, using(crate::proofs::ScanLaws::scan_turns), unfolding(steps::specs::Scan::scan))]
+    pub fn scan(&self, g: &Graph, marks: &mut [u16], a: Node, b: Node) -> Result<Node, Fault>
+        requires { length marks.old ≡ 2 * self.now.labels.size.nodes }
+        ensures { (at : Progress) → AnswersNode (scan_of g.now a.0 b.0 (state_of self.now at)) result }
+    {
+        self.labelling.copy_labels(marks);
+        let mut k = Walk {
+            v: a,
+            w: b,
+            met: false,
+            base: Node(MISSING),
+        };
+        // A limit of turns and no range: the test comes once more than the turns, and a meeting ends the walk at once.
+        let mut left = g.numbers();
+        loop {
+            if ended(k) {
+                break;
+            }
+            if left == 0 {
+                return Err(Fault);
+            }
+            left -= 1;
+            k = self.walk_move(g, marks, k)?;
+        }
+        Ok(k.base)
+    }
+}

@@ -1,0 +1,46 @@
+// A ring turned in its place: its children and its ends, with place i first.
+ghost use Rattle.std.specs.Prelude.{◌≡◌, List, ℕ};
+ghost use Rattle.laws.specs.Run.{ok, at};
+ghost use Rattle.steps.specs.Ring.{rotate};
+ghost use Rattle.steps.specs.State.{Labelling, Pairing, Progress};
+ghost use Rattle.steps.specs.Stores.{put_children, put_ring_ends};
+ghost use Rattle.state.specs.Parts.{whole, state_of, sized};
+
+use crate::forest::Forest;
+use crate::lists::Lists;
+use numbers::Group;
+
+impl<'a> Forest<'a> {
+    pub fn turn_children(&mut self, b: Group, i: u16)
+        ensures said { (r : List ℕ) → at self.old.lists.children b.0 ≡ ok r → (l : Labelling) (q : Pairing) (p : Progress) → put_children b.0 (rotate i r) (whole self.old.lists l q p) ≡ ok (whole self.new.lists l q p) }
+        ensures size { self.new.nodes ≡ self.old.nodes }
+    {
+        self.children.rotate_row(b.0, i);
+    }
+
+    pub fn turn_ring_ends(&mut self, b: Group, i: u16)
+        ensures said { (r : List ℕ) → at self.old.lists.ring_ends b.0 ≡ ok r → (l : Labelling) (q : Pairing) (p : Progress) → put_ring_ends b.0 (rotate i r) (whole self.old.lists l q p) ≡ ok (whole self.new.lists l q p) }
+        ensures size { self.new.nodes ≡ self.old.nodes }
+    {
+        self.ring_ends.rotate_row(b.0, i);
+    }
+}
+
+// Two methods, since the definition has two lists: one with a flag would be no shorter.
+impl<'a> Lists<'a> {
+    // The children of group b, with place i first; they stay as they are where there is no such place.
+    pub fn turn_children(&mut self, b: Group, i: u16)
+        ensures said { (r : List ℕ) → at self.old.forest.lists.children b.0 ≡ ok r → (p : Progress) → put_children b.0 (rotate i r) (state_of self.old p) ≡ ok (state_of self.new p) }
+        ensures size { sized self.new ≡ sized self.old }
+    {
+        self.forest.turn_children(b, i);
+    }
+
+    // The ring ends of group b, likewise.
+    pub fn turn_ring_ends(&mut self, b: Group, i: u16)
+        ensures said { (r : List ℕ) → at self.old.forest.lists.ring_ends b.0 ≡ ok r → (p : Progress) → put_ring_ends b.0 (rotate i r) (state_of self.old p) ≡ ok (state_of self.new p) }
+        ensures size { sized self.new ≡ sized self.old }
+    {
+        self.forest.turn_ring_ends(b, i);
+    }
+}

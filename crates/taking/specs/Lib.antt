@@ -1,2 +1,0 @@
--- How many group numbers are left free.
-pub mod Left
