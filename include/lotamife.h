@@ -51,8 +51,10 @@ enum {
     LOTAMIFE_NO_FULL = 17
 };
 
-/* Finds a matching of the largest weight; with max_cardinality, one with most pairs, and of these one of the largest weight.
- * DONE carries the proof that no matching (with max_cardinality: none of as many pairs or more) weighs more.
+/* Finds a matching of the largest weight; with max_cardinality, it goes for as many pairs as possible and then for weight.
+ * DONE carries the proof that no matching (with max_cardinality: none of as many pairs or more) weighs more. That none has more pairs
+ * is not proved.
+
  *
  * Answers DONE, 1 to 6, STEPS or FAULT.
  * mates   at least n entries: the mate of a node is the end at its partner, or LOTAMIFE_MISSING

@@ -2,6 +2,7 @@
 
 pub mod call;
 pub mod certificates;
+pub mod entries;
 pub mod expect;
 pub mod library;
 pub mod limits;

@@ -21,6 +21,7 @@ impl Report {
     fn maker(&mut self, name: String, runs: impl FnOnce(&mut Tally, &mut Random)) {
         let mut tally = Tally::default();
         runs(&mut tally, &mut Random::new(self.seed));
+        tally.end();
         println!("{}", tally.row(&name, &self.seed.to_string()));
         self.all.add(&tally);
         self.seed += 1;
@@ -44,6 +45,12 @@ impl Report {
             };
             println!("| {number} | {plan} | {check} |");
         }
+        let (planned, judged) = (self.all.entries.planned, self.all.entries.judged);
+        println!(
+            "\non edge entries too: {} plan calls, {} check calls",
+            grouped(planned),
+            grouped(judged)
+        );
         for trouble in &self.all.troubles {
             println!("\n{trouble}");
         }
@@ -52,7 +59,7 @@ impl Report {
         if missing {
             println!("\nan answer was never given");
         }
-        self.all.troubles.is_empty() && !missing
+        self.all.troubles.is_empty() && !missing && planned > 0 && judged > 0
     }
 }
 

@@ -1,6 +1,7 @@
 //! One maker's calls: each held against what is expected, counted, and noted where it differs.
 
 use crate::call::{Call, Certificate, Left};
+use crate::entries::{Entries, Other};
 use crate::expect::{self, Said, DONE, STEPS};
 use oracle::problem::MISSING;
 use oracle::random::Random;
@@ -16,6 +17,7 @@ pub struct Tally {
     pub plans: [u64; NUMBERS],
     pub checks: [u64; NUMBERS],
     pub troubles: Vec<Trouble>,
+    pub entries: Entries,
 }
 
 /// A way in which calls differ from what is expected, and the smallest such call.
@@ -47,6 +49,8 @@ impl Tally {
     /// Runs a plan call and holds all that it leaves against what is expected.
     pub fn plan(&mut self, call: &Call, said: Option<&Said>, random: &mut Random) {
         let expected = expect::plan(call, said);
+        let others = self.entries.plan(call, &expected);
+        self.note_all(others);
         let left = match call.plan(random) {
             Ok(left) => left,
             Err(damage) => return self.trouble(format!("plan: {damage}"), call),
@@ -78,6 +82,20 @@ impl Tally {
                     self.misjudged(kind, call, judged);
                 }
             }
+        }
+        let others = self.entries.check(call, judged, expected);
+        self.note_all(others);
+    }
+
+    /// Makes the calls on edge entries that are waiting.
+    pub fn end(&mut self) {
+        let others = self.entries.end();
+        self.note_all(others);
+    }
+
+    fn note_all(&mut self, others: Vec<Other>) {
+        for (kind, call, judged) in others {
+            self.note(Trouble { kind, call, judged });
         }
     }
 
@@ -112,6 +130,8 @@ impl Tally {
             self.plans[number] += other.plans[number];
             self.checks[number] += other.checks[number];
         }
+        self.entries.planned += other.entries.planned;
+        self.entries.judged += other.entries.judged;
         for trouble in &other.troubles {
             self.note(trouble.clone());
         }

@@ -5,7 +5,7 @@ use Rattle.laws.specs.Run.{ok, fault, at}
 use Rattle.laws.proofs.Runs.{while_stop, while_spent, while_broken, while_torn}
 use Rattle.steps.specs.Augment.{climb_goes, climb_move}
 use Rattle.steps.specs.Ends.{present}
-use Rattle.augment.proofs.Passes.{while_next}
+use Rattle.state.proofs.Passes.{while_next}
 
 module _ (parents : List ℕ) (b t : ℕ) where
   pub climb_torn : at parents t ≡ fault → climb_goes parents b t ≡ fault

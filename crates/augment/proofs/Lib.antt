@@ -1,4 +1,3 @@
-pub mod Passes
 pub mod ClimbLaws
 pub mod RingLaws
 pub mod TrailLaws

@@ -1,14 +1,12 @@
--- The test that each mate names back, one law for each way through the code's test of a node, and for each pass over the nodes.
+-- The test that each mate names back, one law for each way through the code's test of a node.
 use Rattle.std.proofs.Common.{◌≡◌, ◌≢◌, ◌*◌, ℕ, zero, suc, List, [], ◌∷◌, Bool, true, false, eqb, ltb, refl, arith, sym}
 use borrow.Author.Tests.{eq-eqb, ne_eqb, ltb-true, ltb-false}
-use Rattle.laws.specs.Lists.{all, range}
 use Rattle.laws.specs.Run.{ok, fault, and_then, must, at}
-use Rattle.laws.proofs.Loops.{all_next, all_stop, all_end}
 use Rattle.laws.proofs.Runs.{not_ok, ok_inj}
 use Rattle.laws.proofs.Windows.{at_value}
 use Rattle.matching.specs.Certificate.{mate_of}
 use Rattle.matching.specs.Graph.{Graph, edge_count, missing, is_missing, beside, node_at}
-use Rattle.matching.specs.Tests.{mate_test, mates_pass}
+use Rattle.matching.specs.Tests.{mate_test}
 use Rattle.steps.specs.Ends.{endpoint}
 use Rattle.numbers.proofs.EdgeLaws.{beside_in}
 
@@ -72,11 +70,3 @@ module _ (G : Graph) (mates : List ℕ) (v m : ℕ) (h : m ≡ mate_of mates v) 
         test_back s = rw (← h, on, (end_in G m b f).0, (end_in G _ a g).1, eq-eqb a v s, (end_in G m b f).1)
 
 pub ruleset tests = (test_missing, test_lost, test_half, test_other, test_back)
-
--- ---- the test of each node, from node v of n on
-
-pub pass_start : (G : Graph) (mates : List ℕ) → mates_pass G mates ≡ all (mate_test G mates) (range 0 G.nodes)
-unfolding mates_pass
-pass_start G mates = refl
-
-pub ruleset passes = (pass_start, all_next, all_stop, all_end)

@@ -12,7 +12,7 @@ use Rattle.steps.specs.Augment.{turning_goes, turn_group, augment_group}
 use Rattle.steps.specs.Ring.{rotate}
 use Rattle.steps.specs.State.{State}
 use Rattle.augment.specs.Turns.{at_place, below}
-use Rattle.augment.proofs.Passes.{while_next}
+use Rattle.state.proofs.Passes.{while_next}
 
 -- ---- the first child of a ring with place i first
 

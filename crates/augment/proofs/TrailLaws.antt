@@ -1,12 +1,13 @@
--- The trail, one law for each way through a move.
-use Rattle.std.proofs.Common.{◌≡◌, ◌-◌, ◌<◌, ℕ, Bool, true, false, refl, arith, ◌∙◌}
+-- The trail, one law for each answer of a move.
+use Rattle.std.proofs.Common.{◌≡◌, ◌-◌, ◌+◌, ◌<◌, ℕ, true, false, Option, Some, None, Ok, refl, arith, ◌∙◌}
 use Rattle.laws.specs.Run.{ok, while}
 use Rattle.laws.proofs.Runs.{while_stop, while_spent, while_broken, while_pass}
 use Rattle.matching.specs.Graph.{Graph, is_group}
 use Rattle.steps.specs.Augment.{trail_goes, trail_move}
 use Rattle.steps.specs.State.{State}
-use Rattle.augment.specs.Trails.{on_trail}
-use Rattle.augment.proofs.Passes.{while_next}
+use Rattle.state.proofs.Passes.{while_next}
+use Rattle.augment.specs.declared.trail.Place.{Place}
+use Rattle.augment.specs.Trails.{Moves, on_trail}
 
 pub trail_on : (v p : ℕ) (s : State) → trail_goes (on_trail v p false s) ≡ ok true
 unfolding trail_goes
@@ -16,13 +17,21 @@ ended : (v p : ℕ) (s : State) → trail_goes (on_trail v p true s) ≡ ok fals
 unfolding trail_goes
 ended v p s = refl
 
--- pass i of n comes to the root
-module _ (G : Graph) (n i v p : ℕ) (s : State) (w q : ℕ) (t : Bool) (s' : State) (l : i < n) where
-  pub trail_over : t ≡ true → trail_move is_group G (on_trail v p false s) ≡ ok (on_trail w q t s')
-      → while trail_goes (trail_move is_group G) (n - i) (on_trail v p false s) ≡ ok (on_trail w q true s')
-  trail_over f e0 =
-      let e = rw f at e0 in
-      while_pass trail_goes (trail_move is_group G) (n - i) _ (on_trail w q true s') (omega arith) (trail_on v p s) e
-      ∙ while_stop trail_goes (trail_move is_group G) (n - i - 1) (on_trail w q true s') (ended w q s')
+-- pass i of n, from the place k
+module _ (G : Graph) (n i : ℕ) (k : Place) (s s' : State) (next : Option Place)
+    (m : Moves k (trail_move is_group G (on_trail k.v.0 k.p.0 false s)) (Ok next) s') (l : i < n) where
+  pub trail_over : next ≡ None
+      → while trail_goes (trail_move is_group G) (n - i) (on_trail k.v.0 k.p.0 false s) ≡ ok (on_trail k.v.0 k.p.0 true s')
+  trail_over h =
+      let e = rw h at m in
+      while_pass trail_goes (trail_move is_group G) (n - i) _ (on_trail k.v.0 k.p.0 true s') (omega arith) (trail_on k.v.0 k.p.0 s) e
+      ∙ while_stop trail_goes (trail_move is_group G) (n - i - 1) (on_trail k.v.0 k.p.0 true s') (ended k.v.0 k.p.0 s')
 
-pub ruleset trails = (trail_on, trail_over, while_next, while_spent, while_broken)
+  pub trail_goes_on : (to : Place) → next ≡ Some to
+      → while trail_goes (trail_move is_group G) (n - (i + 1)) (on_trail to.v.0 to.p.0 false s')
+      ≡ while trail_goes (trail_move is_group G) (n - i) (on_trail k.v.0 k.p.0 false s)
+  trail_goes_on to h =
+      let e = rw h at m in
+      while_next trail_goes (trail_move is_group G) n i _ (on_trail to.v.0 to.p.0 false s') l (trail_on k.v.0 k.p.0 s) e
+
+pub ruleset trails = (trail_on, while_spent, while_broken)

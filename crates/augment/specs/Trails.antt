@@ -1,5 +1,5 @@
 -- The path back to the root. Definitions only.
-use Rattle.std.specs.Prelude.{◌≡◌, Bool, ℕ, Result, Ok, Err}
+use Rattle.std.specs.Prelude.{◌≡◌, Bool, true, false, ℕ, Option, None, Some, Result, Ok, Err}
 use Rattle.laws.specs.Run.{Run, ok, fault}
 use Rattle.numbers.specs.declared.End.{End}
 use Rattle.numbers.specs.declared.faults.Fault.{Fault}
@@ -16,6 +16,12 @@ Reaches x (Ok e) s = x ≡ ok (record { from = e.0; state = s })
 Reaches x (Err e) s = x ≡ fault
 
 -- the run x answers the next node and end, with the state s then
-abbrev pub Moves : Run Trail → Result Place Fault → State → Type 0
-Moves x (Ok k) s = x ≡ ok (on_trail k.v.0 k.p.0 k.over s)
-Moves x (Err e) s = x ≡ fault
+abbrev pub Leads : Run Trail → Result Place Fault → State → Type 0
+Leads x (Ok k) s = x ≡ ok (on_trail k.v.0 k.p.0 false s)
+Leads x (Err e) s = x ≡ fault
+
+-- from the place k the run x answers the next node and end, or none where the root of k's node has been reached, with the state s then
+abbrev pub Moves : (k : Place) → Run Trail → Result (Option Place) Fault → State → Type 0
+Moves k x (Ok (Some next)) s = x ≡ ok (on_trail next.v.0 next.p.0 false s)
+Moves k x (Ok None) s = x ≡ ok (on_trail k.v.0 k.p.0 true s)
+Moves k x (Err e) s = x ≡ fault

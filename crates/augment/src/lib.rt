@@ -28,6 +28,5 @@ pub fn augment_matching(g: &Graph, lists: &mut Lists, e: Edge) -> Result<(), Fau
     let x = g.edge(e)?;
     match_trail(g, lists, x.first, e.second_end())?;
     match_trail(g, lists, x.second, e.first_end())?;
-    must(mates_pass(g, lists))?;
-    Ok(())
+    must(mates_pass(g, lists))
 }

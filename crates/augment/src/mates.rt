@@ -38,14 +38,8 @@ fn mate_fits(g: &Graph, lists: &Lists, v: Node) -> bool
 }
 
 // The mate of each node fits.
-#[tactic(auto, using(crate::proofs::MateLaws::passes))]
 pub(crate) fn mates_pass(g: &Graph, lists: &Lists) -> bool
     ensures { result ≡ mates_pass_of g.now lists.now.pairing.lists.mates }
 {
-    for v in 0..g.nodes() {
-        if !mate_fits(g, lists, Node(v)) {
-            return false;
-        }
-    }
-    true
+    (0..g.nodes()).all(|v| mate_fits(g, lists, Node(v)))
 }

@@ -5,7 +5,7 @@ ghost use Rattle.steps.specs.State.{Progress};
 ghost use Rattle.steps.specs.Augment.{through_label1, through_label2, trail_move as trail_move_of, match_trail as match_trail_of};
 ghost use Rattle.numbers.specs.Answers.{Agrees};
 ghost use Rattle.state.specs.Parts.{state_of, sized};
-ghost use Rattle.augment.specs.Trails.{Reaches, Moves, on_trail};
+ghost use Rattle.augment.specs.Trails.{Reaches, Leads, Moves, on_trail};
 
 use crate::turn::augment_top;
 use edges::graph::Graph;
@@ -13,12 +13,11 @@ use numbers::faults::{Fault, must, present};
 use numbers::{End, Node};
 use state::lists::Lists;
 
-// Node v is to be matched by end p; over where v's root has been reached. A flag beside them, as in the definition's record.
+// Node v is to be matched by end p.
 #[derive(Clone, Copy, Debug, PartialEq, Eq)]
 pub(crate) struct Place {
     pub v: Node,
     pub p: End,
-    pub over: bool,
 }
 
 // The label-1 group of v is turned and v matched by end p; the answer is the end through which the group was reached.
@@ -41,7 +40,7 @@ fn through_one(g: &Graph, lists: &mut Lists, v: Node, p: End) -> Result<End, Fau
 // The label-2 group at end e is turned, and the next node to match is found.
 #[tactic(auto, unfolding(steps::specs::Augment::through_label2))]
 fn through_two(g: &Graph, lists: &mut Lists, e: End) -> Result<Place, Fault>
-    ensures said { (at : Progress) → Moves (through_label2 is_group g.now e.0 (state_of lists.old at)) result (state_of lists.new at) }
+    ensures said { (at : Progress) → Leads (through_label2 is_group g.now e.0 (state_of lists.old at)) result (state_of lists.new at) }
     ensures size { sized lists.new ≡ sized lists.old }
 {
     let t = g.endpoint(e)?;
@@ -56,25 +55,21 @@ fn through_two(g: &Graph, lists: &mut Lists, e: End) -> Result<Place, Fault>
     must(base == t)?;
     augment_top(g, lists, b, j)?;
     lists.put_mate(j, f)?;
-    Ok(Place {
-        v,
-        p: f.beside(),
-        over: false,
-    })
+    Ok(Place { v, p: f.beside() })
 }
 
-// Node v is matched by end p, and the next is found.
+// A node is matched, and the next is found, if its root has not been reached.
 #[tactic(auto, unfolding(steps::specs::Augment::trail_move))]
-fn trail_move(g: &Graph, lists: &mut Lists, v: Node, p: End) -> Result<Place, Fault>
-    ensures said { (at : Progress) → Moves (trail_move_of is_group g.now (on_trail v.0 p.0 false (state_of lists.old at))) result (state_of lists.new at) }
+fn trail_move(g: &Graph, lists: &mut Lists, here: Place) -> Result<Option<Place>, Fault>
+    ensures said { (at : Progress) → Moves here (trail_move_of is_group g.now (on_trail here.v.0 here.p.0 false (state_of lists.old at))) result (state_of lists.new at) }
     ensures size { sized lists.new ≡ sized lists.old }
 {
-    let e = through_one(g, lists, v, p)?;
+    let e = through_one(g, lists, here.v, here.p)?;
     if e.is_missing() {
-        return Ok(Place { v, p, over: true });
+        return Ok(None);
     }
     let next = through_two(g, lists, e)?;
-    Ok(next)
+    Ok(Some(next))
 }
 
 // Node v is matched by end p, and so on back to the root: at most 2n moves.
@@ -83,15 +78,12 @@ pub(crate) fn match_trail(g: &Graph, lists: &mut Lists, v: Node, p: End) -> Resu
     ensures said { (at : Progress) → Agrees (match_trail_of is_group g.now v.0 p.0 (state_of lists.old at)) result (state_of lists.new at) }
     ensures size { sized lists.new ≡ sized lists.old }
 {
-    let mut w = v;
-    let mut q = p;
+    let mut here = Place { v, p };
     for _ in 0..g.numbers() {
-        let next = trail_move(g, lists, w, q)?;
-        if next.over {
-            return Ok(());
+        match trail_move(g, lists, here)? {
+            Some(next) => here = next,
+            None => return Ok(()),
         }
-        w = next.v;
-        q = next.p;
     }
     Err(Fault)
 }

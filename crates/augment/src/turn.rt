@@ -43,8 +43,7 @@ fn match_end(g: &Graph, lists: &mut Lists, p: End) -> Result<(), Fault>
     let a = g.endpoint(p)?;
     let b = g.endpoint(p.beside())?;
     lists.put_mate(a, p.beside())?;
-    lists.put_mate(b, p)?;
-    Ok(())
+    lists.put_mate(b, p)
 }
 
 // The child at place i of a ring.
@@ -82,8 +81,7 @@ fn reroot(lists: &mut Lists, b: Group, i: u16, v: Node) -> Result<(), Fault>
     let c = first?;
     let base = lists.base(c)?;
     lists.put_base(b, base)?;
-    must(base == v)?;
-    Ok(())
+    must(base == v)
 }
 
 // The child c, entered at end p, is turned where it is a group.
@@ -100,7 +98,8 @@ fn turn_child(g: &Graph, lists: &mut Lists, depth: u16, c: Group, p: End) -> Res
     Ok(())
 }
 
-// The next two children are turned, and the edge between them is matched; the answer is the second one's place.
+// The next two children are turned, and the edge between them is matched; the answer is the second one's place. `forward` is the
+// definition's own parameter.
 #[cycle(turning)]
 #[tactic(auto, unfolding(steps::specs::Augment::turning_move))]
 fn turn_two(
@@ -147,8 +146,7 @@ fn turn_ring(g: &Graph, lists: &mut Lists, depth: u16, b: Group, i: u16) -> Resu
         }
         place = turn_two(g, lists, depth, b, i % 2 == 1, place)?;
     }
-    must(place == 0)?;
-    Ok(())
+    must(place == 0)
 }
 
 // One level of group b: the child that holds node v is turned, the ring from it to the first child, and the group re-rooted.
@@ -165,8 +163,7 @@ fn turn_level(g: &Graph, lists: &mut Lists, depth: u16, b: Group, v: Node) -> Re
     let kids = lists.children(b)?;
     let i = place_of(kids, t)?;
     turn_ring(g, lists, depth, b, i)?;
-    reroot(lists, b, i, v)?;
-    Ok(())
+    reroot(lists, b, i, v)
 }
 
 // Group b is turned so that node v is its base; groups nest at most `depth` deep.
@@ -179,8 +176,7 @@ fn turn_group(g: &Graph, lists: &mut Lists, depth: u16, b: Group, v: Node) -> Re
     if depth == 0 {
         return Err(Fault);
     }
-    turn_level(g, lists, depth - 1, b, v)?;
-    Ok(())
+    turn_level(g, lists, depth - 1, b, v)
 }
 
 // Group b, where it is one, is turned so that node v is its base.

@@ -1,4 +1,4 @@
--- The laws of the check, condition by condition, and its theorem.
+-- The laws of the check, condition by condition, and its theorems.
 pub mod SignedLaws
 pub mod Passes
 pub mod EdgeReads
@@ -12,3 +12,4 @@ pub mod SharedLaws
 pub mod GroupLaws
 pub mod JudgeLaws
 pub mod Yes
+pub mod Single

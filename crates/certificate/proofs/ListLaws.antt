@@ -8,7 +8,9 @@ use native.Mathlib.Omega.{arith}
 use borrow.Author.Tests.{eq-eqb, ne_eqb}
 use lib.Dec.{eqb}
 use lib.IntN.{ℤ, pos, ◌+ℤ◌}
-use lib.ListN.{length, get_or}
+use lib.ListN.{length, get_or, drop, drop_of_length-le}
+use lib.Seq.{drop-cons}
+use Rattle.std.specs.List.{list_all}
 use Rattle.laws.specs.Integers.{is_zero}
 use Rattle.laws.specs.Lists.{all, range}
 use Rattle.laws.proofs.Decides.{Decides, equal, at_most, less, both, either, below, itself}
@@ -19,6 +21,17 @@ use Rattle.matching.proofs.Readings.{of_slices}
 use Rattle.certificate.specs.Chains.{Named, Climbing}
 use Rattle.certificate.specs.Lists.{Known, Weighed, lent, bare, parent_named, named_at, dual_fits, certificate_of}
 use Rattle.laws.proofs.Loops.{get_d_any, all_same, all_both, of_true}
+
+-- ---- a test of each entry, as a test of each place
+
+module _ {A : Type 0} (p : A → Bool) (xs : List A) (d : A) where
+  from_place : (m i : ℕ) → i + m ≡ length xs → all (λ k. p (get_or xs k d)) (range i m) ≡ list_all p (drop i xs)
+  unfolding all range
+  from_place zero i e = rw (drop_of_length-le xs {i = i} (omega arith))
+  from_place (suc m) i e = rw (drop-cons xs i d (omega arith), from_place m (suc i) (omega arith))
+
+  pub all_entries : all (λ k. p (get_or xs k d)) (range 0 (length xs)) ≡ list_all p xs
+  all_entries = from_place (length xs) 0 (omega arith)
 
 -- ---- climbing
 
@@ -64,6 +77,10 @@ module _ (n : ℕ) (parents : List ℕ) (long : length parents ≡ 2 * n) where
   named_decided : (i : ℕ) → Decides ((get_or parents i 0 ≡ missing) ⊎ ((n ≤ get_or parents i 0) × (get_or parents i 0 < 2 * n))) (named_at n parents i)
   unfolding named_at parent_named
   named_decided i = either (equal (get_or parents i 0) missing) (both (at_most n (get_or parents i 0)) (less (get_or parents i 0) (2 * n)))
+
+  pub named_listed : list_all (parent_named n) parents ≡ all (named_at n parents) (range 0 (2 * n))
+  unfolding named_at
+  named_listed = rw (← long) (sym (all_entries (parent_named n) parents 0))
 
   pub all_named : all (named_at n parents) (range 0 (2 * n)) ≡ true → Named n parents
   all_named e = record {

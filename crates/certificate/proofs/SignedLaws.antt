@@ -1,6 +1,7 @@
 -- Signed tests of the code, as tests of a distance from zero.
 use mathlib.Core.Path.{◌≡◌, refl, sym, subst, ◌∙◌}
-use mathlib.Core.Bool.{true, false}
+use mathlib.Core.Bool.{Bool, true, false, cond}
+use mathlib.Core.Logic.{⊎_elim}
 use mathlib.Core.List.{List, [], ◌∷◌}
 use Prim.Native.Nat.{ℕ, suc, ◌+◌, ◌<◌, ◌≤◌, zero-le}
 use native.Mathlib.Nat.{not-suc-le-zero}
@@ -9,7 +10,7 @@ use native.Mathlib.Omega.{arith}
 use borrow.Author.Tests.{ltb-true, ltb-false, leb-true, leb-false, ne_eqb, lt-ltb, le-ltb, le-leb}
 use lib.Dec.{T, eqb}
 use lib.IntN.{ℤ, pos, negsuc, neg_ℤ, nat_abs, ◌-ℤ◌, +ℤ_idl}
-use lib.ListN.{length, get_or, take, drop, length-take, drop_of_length-le}
+use lib.ListN.{length, get_or, take, drop, length-take, drop_of_length-le, get_or-eq_default}
 use lib.Seq.{drop-cons, get_or-take}
 use lib.Signed.{lt_z, le_z}
 use mir.Syntax.{w64}
@@ -17,8 +18,10 @@ use mir.Val.{SFits, of_z}
 use Rattle.laws.specs.Integers.{is_zero, lesser, least_from, least}
 use Rattle.laws.specs.Lists.{Each}
 use Rattle.laws.proofs.Integers.{fits_near, least_from_near}
+use Rattle.numbers.specs.Near.{Near as AllNear}
 use Rattle.certificate.specs.Lists.{Near}
 use Rattle.laws.proofs.Loops.{each_get_or}
+use Rattle.laws.proofs.Times.{less_or_not}
 
 never : {B : Type 0} → false ≡ true → B
 never e = absurd (subst T (sym e) tt)
@@ -41,10 +44,19 @@ zero_bits (negsuc n) f = ne_eqb (of_z w64 (negsuc n)) 0 (λ e. omega (arith, f.s
 
 -- ---- the least of a list, entry by entry
 
-pub least_first : (l : List ℤ) → 0 < length l → least_from (get_or l 0 (pos 0)) (drop 1 l) ≡ least l
-unfolding least
-least_first [] h = absurd (not-suc-le-zero h)
-least_first (z ∷ zs) h = refl
+lesser_same : (z : ℤ) → lesser z z ≡ z
+unfolding lesser
+lesser_same z = by (lt_z z z)
+  where
+    by : (t : Bool) → cond t z z ≡ z
+    by true = refl
+    by false = refl
+
+-- the first entry may be looked at twice
+pub least_twice : (l : List ℤ) → 0 < length l → least_from (get_or l 0 (pos 0)) l ≡ least l
+unfolding least_from least
+least_twice [] h = absurd (not-suc-le-zero h)
+least_twice (z ∷ zs) h = rw (lesser_same z)
 
 module _ (l : List ℤ) {whole : ℤ} (z : ℤ) (v : ℕ) where
   pub least_next : v < length l → least_from z (drop v l) ≡ whole → least_from (lesser z (get_or l v (pos 0))) (drop (v + 1) l) ≡ whole
@@ -67,25 +79,20 @@ duals_near n duals d = each_get_or (λ z. nat_abs z ≤ 4503599627370496) (take 
     (λ i h. subst (λ (z : ℤ). nat_abs z ≤ 4503599627370496) (sym (get_or-take n duals i (pos 0) (omega (arith, length-take n duals))))
     (d.is_small i (omega (arith, length-take n duals))))
 
+-- and one by one
+pub first_near : (n : ℕ) (duals : List ℤ) → Near n duals → AllNear 4503599627370496 (take n duals)
+first_near n duals d = record { near = one }
+  where
+    one : (i : ℕ) → nat_abs (get_or (take n duals) i (pos 0)) ≤ 4503599627370496
+    one i = ⊎_elim (λ h. rw (get_or-take n duals i (pos 0) h) (d.is_small i (omega arith)))
+        (λ h. rw (get_or-eq_default (take n duals) (pos 0) {n = i} (omega (arith, length-take n duals))) zero-le) (less_or_not i n)
+
 -- minus a number
 pub minus : (z : ℤ) → pos 0 -ℤ z ≡ neg_ℤ z
 minus z = +ℤ_idl (neg_ℤ z)
 
 pub near_fits : (z : ℤ) → nat_abs z ≤ 4503599627370496 → SFits w64 z
 near_fits z h = fits_near z (omega arith)
-
--- ---- the first n duals, read where they stand
-
-module _ (n : ℕ) (duals : List ℤ) (long : n ≤ length duals) where
-  pub least_start : 0 < n → least_from (get_or duals 0 (pos 0)) (drop 1 (take n duals)) ≡ least (take n duals)
-  least_start h = rw (get_or-take n duals 0 (pos 0) h) at (least_first (take n duals) (omega (arith, length-take n duals)))
-
-  pub least_turn : {whole : ℤ} (z : ℤ) (v : ℕ) → v < n → least_from z (drop v (take n duals)) ≡ whole
-      → least_from (lesser z (get_or duals v (pos 0))) (drop (v + 1) (take n duals)) ≡ whole
-  least_turn z v h w = rw (get_or-take n duals v (pos 0) h) at (least_next (take n duals) z v (omega (arith, length-take n duals)) w)
-
-  pub least_over : {whole : ℤ} (z : ℤ) (v : ℕ) → n ≤ v → least_from z (drop v (take n duals)) ≡ whole → z ≡ whole
-  least_over z v h w = least_end (take n duals) z v (omega (arith, length-take n duals)) w
 
 -- 0 or less, and above 0
 pub at_most_zero : (z : ℤ) → le_z z (pos 0) ≡ true → lt_z (pos 0) z ≡ false

@@ -17,16 +17,16 @@ pub enum Cause {
     Weight(Edge),
 }
 
-// Conditions 11 to 17.
+// Conditions, with document 01's numbers.
 #[derive(Clone, Copy, Debug, PartialEq, Eq)]
 pub enum Condition {
-    Mate,
-    Parent,
-    Dual,
-    Edge,
-    Tight,
-    Free,
-    Full,
+    Mate = 11,
+    Parent = 12,
+    Dual = 13,
+    Edge = 14,
+    Tight = 15,
+    Free = 16,
+    Full = 17,
 }
 
 #[derive(Clone, Copy, Debug, PartialEq, Eq)]
@@ -36,7 +36,7 @@ pub enum Verdict {
     Refused(Cause),
 }
 
-// Numbers and places by a match: the cases hold values, so no cast gives them.
+// Numbers and places by a match: some cases hold an edge, so no cast gives them.
 impl Cause {
     // Document 01's number of a refusal.
     pub fn number(self) -> u16
@@ -68,15 +68,7 @@ impl Condition {
     pub fn number(self) -> u16
         ensures { result ≡ condition_number (condition_of self) }
     {
-        match self {
-            Condition::Mate => 11,
-            Condition::Parent => 12,
-            Condition::Dual => 13,
-            Condition::Edge => 14,
-            Condition::Tight => 15,
-            Condition::Free => 16,
-            Condition::Full => 17,
-        }
+        self as u16
     }
 }
 
@@ -103,7 +95,7 @@ impl Verdict {
     }
 }
 
-// Ok where a test holds, and else the error that says which.
+// Ok where a test holds, and else the error that says which. The search has one for its single fault, which needs no argument.
 pub(crate) fn must<E: Copy>(test: bool, error: E) -> Result<(), E>
     ensures { Required test error result }
 {

@@ -106,7 +106,7 @@ impl<'a> Chains<'a> {
         is_in(self.row(v), b.number())
     }
 
-    // How many nodes group b contains.
+    // How many nodes group b contains. A sum of ones, as in the definition: `filter` and `count` would want a law that ties the two.
     #[tactic(auto, using(crate::proofs::Passes::sums), unfolding(matching::specs::Certificate::size, matching::specs::Certificate::contains))]
     pub(crate) fn size_of(&self, b: Group) -> u16
         ensures { result ≡ size_of (bare self.now.nodes) self.now.parents.now b.0 }
@@ -129,7 +129,7 @@ impl<'a> Chains<'a> {
     {
         let x = self.row(a);
         let y = self.row(b);
-        // Two places from the top, no longer than two iterators turned round.
+        // Two places from the top: what is summed so far is told by the two places, and two iterators that are zipped have none.
         let mut i = x.len();
         let mut j = y.len();
         let mut sum: i64 = 0;

@@ -98,21 +98,15 @@ impl<'a> Edges<'a> {
             return false;
         }
         let q = End(p).beside();
-        self.node_at(q).number() == v.number() && mate_of(mates, self.node_at(End(p))) == q.number()
+        self.node_at(q) == v && mate_of(mates, self.node_at(End(p))) == q.number()
     }
 
     // The search has such a test over its own lists; the check call rests on nothing of the search.
-    #[tactic(auto, using(crate::proofs::Passes::passes))]
     pub(crate) fn mates_pass(&self, mates: &[u16]) -> bool
         requires { length mates.now ≡ self.now.nodes }
         ensures { result ≡ all (mate_test (graph self.now) mates.now) (range 0 self.now.nodes) }
     {
-        for v in 0..self.nodes {
-            if !self.mate_test(mates, Node(v)) {
-                return false;
-            }
-        }
-        true
+        (0..self.nodes).all(|v| self.mate_test(mates, Node(v)))
     }
 }
 

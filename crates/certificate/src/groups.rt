@@ -69,17 +69,11 @@ impl<'a> Full<'a> {
         size % 2 == 1 && self.pairs_within(b) == size / 2
     }
 
-    #[tactic(auto, using(crate::proofs::Passes::passes))]
     fn groups_pass(&self) -> bool
         ensures { result ≡ all (full_test (graph self.now.trial.now.edges) (certificate self.now.trial.now)) (groups_of (graph self.now.trial.now.edges)) }
     {
         let n = self.trial.edges.nodes;
-        for b in n..2 * n {
-            if !self.full_test(Group(b)) {
-                return false;
-            }
-        }
-        true
+        (n..2 * n).all(|b| self.full_test(Group(b)))
     }
 }
 

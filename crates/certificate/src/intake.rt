@@ -34,6 +34,7 @@ fn edges_intake(n: usize, first: &[u16], second: &[u16], weight: &[i64]) -> Resu
     requires weights { length weight.now ≡ length first.now }
     ensures { intake_of result ≡ edges_intake n 0 (edges_from first.now second.now weight.now) }
 {
+    // Three lists at one number, which the refusal carries.
     for e in 0..first.len() {
         edge_intake(
             n,

@@ -1,4 +1,4 @@
-// Lent lists cleared over their whole length.
+// Lent lists cleared over their whole length. Two named functions over std's `fill`: what a cleared entry is stands once for all calls.
 #![tactic(auto)]
 
 ghost use Rattle.std.specs.Prelude.{◌≡◌, pos, length, replicate};
@@ -13,7 +13,7 @@ pub fn clear(list: &mut [u16])
     list.fill(MISSING);
 }
 
-// A list of duals: all 0. What is cleared differs from the above in its type and in what a cleared entry is.
+// A list of duals: all 0.
 pub fn clear_duals(duals: &mut [i64])
     ensures { duals.new ≡ replicate (length duals.old) (pos 0) }
 {

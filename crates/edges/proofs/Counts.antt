@@ -7,23 +7,18 @@ use native.Mathlib.Numerals.{add-one}
 use native.Mathlib.Omega.{arith}
 use borrow.Author.Tests.{lt-ltb, le-ltb}
 use lib.Dec.{ltb, eqb}
-use lib.ListN.{length, get_or, set, drop, replicate, get_or-replicate, drop_of_length-le}
+use lib.ListN.{length, get_or, set, drop, drop_of_length-le}
 use lib.Seq.{drop-cons, get_or-set_same, get_or-set_other}
 use Rattle.laws.specs.Lists.{bit}
 use Rattle.laws.specs.Times.{times}
 use Rattle.laws.proofs.Times.{same_or_not, less_or_not, bit_same, bit_other, bit_le, times_nil, times_here, times_later}
-use Rattle.edges.specs.Neighbours.{Counted, sum_to, Summed}
+use Rattle.edges.specs.Neighbours.{below, Counted, sum_to, Summed}
 
 bit_below : (x v : ℕ) → x < v → bit (ltb x v) ≡ 1
 bit_below x v h = rw (lt-ltb x v h)
 
 bit_above : (x v : ℕ) → v ≤ x → bit (ltb x v) ≡ 0
 bit_above x v h = rw (le-ltb x v h)
-
--- how many are below v
-unfoldable pub below : ℕ → List ℕ → ℕ
-below v [] = 0
-below v (x ∷ xs) = bit (ltb x v) + below v xs
 
 step : (x v : ℕ) → bit (ltb x (suc v)) ≡ bit (ltb x v) + bit (eqb x v)
 step x v = ⊎_elim
@@ -146,11 +141,7 @@ module _ (counts l : List ℕ) (v t : ℕ) (s : Summing counts v l) (e : t ≡ s
     last = get_or-set_same l v t 0 h ∙ e;
   }
 
--- no end is counted yet
-pub count_none : (n k : ℕ) (ends : List ℕ) → n < k → Counting n 0 ends (replicate k 0)
-count_none n k ends h = record { counting = λ v l. rw (get_or-replicate {A = ℕ} k v 0 0 (omega arith)) (omega arith) }
-
--- all are
+-- all ends are counted
 pub count_end : (n i : ℕ) (ends counts : List ℕ) → length ends ≤ i → Counting n i ends counts → Counted n ends counts
 count_end n i ends counts h c = record { counted = λ v l. omega (arith, ap (times v) (drop_of_length-le ends h), times_nil v, c.counting v l) }
 

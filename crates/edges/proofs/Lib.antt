@@ -3,3 +3,4 @@ pub mod Lent
 pub mod Top
 pub mod Counts
 pub mod Placing
+pub mod Table

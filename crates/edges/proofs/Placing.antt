@@ -13,8 +13,8 @@ use Rattle.laws.proofs.Times.{same_or_not, times_nil, less_or_not}
 use Rattle.matching.specs.Graph.{Edge, Graph, beside}
 use Rattle.numbers.specs.Edges.{ends_of}
 use Rattle.steps.specs.Ends.{far_ends, far_ends_from}
-use Rattle.edges.specs.Neighbours.{far_from, Neighbours, Counted, Summed, sum_to}
-use Rattle.edges.proofs.Counts.{below, below_next, below_le, below_mono, times_drop, back, back_here, back_other, sum_below}
+use Rattle.edges.specs.Neighbours.{far_from, Neighbours, below, Begun, Counted, Summed, sum_to}
+use Rattle.edges.proofs.Counts.{below_next, below_le, below_mono, times_drop, back, back_here, back_other, sum_below}
 
 -- ---- a part of a list after a store
 
@@ -125,6 +125,11 @@ module _ {n p : ℕ} {ends offsets far : List ℕ} (s : Placed n p ends offsets 
     abbrev far' : List ℕ
     far' = set far k (beside q)
 
+    -- past the places of all nodes nothing changes
+    pub placed_past : (before : List ℕ) → drop (below n ends) far ≡ drop (below n ends) before → drop (below n ends) far' ≡ drop (below n ends) before
+    placed_past before past =
+        drop-set-lt (below n ends) far k (beside q) (omega (arith, placed_room, below_mono (suc x) n ends l)) ∙ past
+
     same : get_or offsets' x 0 ≡ k
     same = get_or-set_same offsets x k 0 (omega arith)
 
@@ -172,6 +177,12 @@ module _ {n : ℕ} {ends offsets far : List ℕ} (s : Placed n 0 ends offsets fa
       (λ (k : v + 1 < n). rw (← add-one v) (start (v + 1) k))
       (λ k. let e : v + 1 ≡ n = omega arith in rw (← add-one v, e) s.last)
       (less_or_not (v + 1) n)
+
+  pub placed_begun : (before : List ℕ) → drop (below n ends) far ≡ drop (below n ends) before → Begun n ends offsets before far
+  placed_begun before past = record { begins = λ v h. ⊎_elim (λ k. start v k) (λ k. last v h k) (less_or_not v n); past = past }
+    where
+      last : (v : ℕ) → v ≤ n → n ≤ v → get_or offsets v 0 ≡ below v ends
+      last v h k = let e : v ≡ n = omega arith in rw e s.last
 
   pub placed_all : Neighbours n ends offsets far
   placed_all = record {

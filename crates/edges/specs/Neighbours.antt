@@ -1,6 +1,7 @@
 -- The neighbours of each node as a table: the places offsets[v] to offsets[v + 1] of `far` hold the far end of each end at node v, in
 -- edge order. Definitions only.
-use Rattle.std.specs.Prelude.{if◌then◌else◌, ◌≡◌, List, [], ◌∷◌, ℕ, zero, suc, ◌+◌, ◌-◌, ◌<◌, ◌≤◌, eqb, length, get_or, take, drop}
+use Rattle.std.specs.Prelude.{if◌then◌else◌, ◌≡◌, List, [], ◌∷◌, ◌++◌, map, ℕ, zero, suc, ◌+◌, ◌-◌, ◌<◌, ◌≤◌, eqb, ltb, length, get_or, take, drop}
+use Rattle.laws.specs.Lists.{bit, range}
 use Rattle.laws.specs.Times.{times}
 use Rattle.matching.specs.Graph.{beside}
 
@@ -18,7 +19,28 @@ pub record Neighbours (n : ℕ) (ends offsets far : List ℕ) : Type 0 where
   pub within : (v : ℕ) → v < n → get_or offsets (v + 1) 0 ≤ length far
   pub row : (v : ℕ) → v < n → far_at offsets far v ≡ far_from v 0 ends
 
+-- ---- the two lists, whole
+
+-- how many ends are at nodes below v
+unfoldable pub below : (v : ℕ) → (ends : List ℕ) → ℕ
+below v [] = 0
+below v (x ∷ xs) = bit (ltb x v) + below v xs
+
+-- where the places of each of n nodes begin, and where the last node's end
+abbrev pub offsets_of : (n : ℕ) → (ends : List ℕ) → List ℕ
+offsets_of n ends = map (λ v. below v ends) (range 0 (n + 1))
+
+-- the far ends of n nodes, one node's after another's; an end at node n or more has none
+unfoldable pub far_of : (n : ℕ) → (ends : List ℕ) → List ℕ
+far_of zero ends = []
+far_of (suc n) ends = far_of n ends ++ far_from n 0 ends
+
 -- ---- while it is made
+
+-- each node's places begin where those of the nodes below it end, and past those of all n nodes `far` is as it was
+pub record Begun (n : ℕ) (ends offsets before far : List ℕ) : Type 0 where
+  pub begins : (v : ℕ) → v ≤ n → get_or offsets v 0 ≡ below v ends
+  pub past : drop (below n ends) far ≡ drop (below n ends) before
 
 -- how many ends are at each node
 pub record Counted (n : ℕ) (ends counts : List ℕ) : Type 0 where

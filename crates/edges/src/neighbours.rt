@@ -1,7 +1,7 @@
 // The neighbours of each node as a table, made once a call: the far ends at node v, in edge order, are far[offsets[v]] to the one
 // before far[offsets[v + 1]]. The ends at each node are counted, the counts summed, and the ends put in their places, last first.
-ghost use Rattle.std.specs.Prelude.{List, ◌≡◌, ℕ, ◌+◌, ◌<◌, ◌≤◌, length};
-ghost use Rattle.edges.specs.Neighbours.{Neighbours, Counted, Summed, sum_to};
+ghost use Rattle.std.specs.Prelude.{List, ◌≡◌, ◌++◌, ℕ, ◌+◌, ◌<◌, ◌≤◌, length, drop};
+ghost use Rattle.edges.specs.Neighbours.{Neighbours, Begun, Counted, Summed, sum_to, below, offsets_of, far_of};
 
 use numbers::End;
 
@@ -27,7 +27,7 @@ fn sum_up(offsets: &mut [u16], n: u16)
 {
     let end = n as usize;
     let mut total: u16 = 0;
-    // By place: writing through an iterator would tell nothing of the entries.
+    // By place: how far the sum goes is told by it, and one place more is written after the others.
     for v in 0..end {
         total += offsets[v];
         offsets[v] = total;
@@ -41,7 +41,8 @@ fn place_ends(ends: &[u16], n: u16, offsets: &mut [u16], far: &mut [u16])
     requires few { length ends.now ≤ 32768 }
     requires same { length far.old ≡ length ends.now }
     requires summed { (counts : List ℕ) × Counted n ends.now counts × Summed n counts offsets.old }
-    ensures { Neighbours n ends.now offsets.new far.new }
+    ensures table { Neighbours n ends.now offsets.new far.new }
+    ensures begun { Begun n ends.now offsets.new far.old far.new }
 {
     for p in (0..ends.len()).rev() {
         let v = ends[p];
@@ -53,12 +54,15 @@ fn place_ends(ends: &[u16], n: u16, offsets: &mut [u16], far: &mut [u16])
     }
 }
 
-// The table of n nodes: offsets has n + 1 entries, far one for each end.
+// The table of n nodes: offsets has n + 1 entries, far one for each end. An end at node n or more is in no row: so many places at the end
+// of far stay as they were, all of them where n is 0.
 pub fn neighbours(ends: &[u16], n: u16, offsets: &mut [u16], far: &mut [u16])
     requires starts { length offsets.old ≡ n + 1 }
     requires few { length ends.now ≤ 32768 }
     requires same { length far.old ≡ length ends.now }
-    ensures { Neighbours n ends.now offsets.new far.new }
+    ensures begins { offsets.new ≡ offsets_of n ends.now }
+    ensures rows { far.new ≡ far_of n ends.now ++ drop (below n ends.now) far.old }
+    ensures table { Neighbours n ends.now offsets.new far.new }
 {
     count_ends(ends, n, offsets);
     sum_up(offsets, n);

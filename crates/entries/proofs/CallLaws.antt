@@ -59,8 +59,10 @@ module _ (n count : ℕ) (first second : List ℕ) (weight : List ℤ) (flag : B
     plan_within h = rw (le-ltb 2048 count h)
 
 -- an answer with lists that are cleared is a plan with nothing in it
-pub refused_plan : (m d p : ℕ) {mates parents : List ℕ} {duals : List ℤ} → mates ≡ replicate m missing → duals ≡ replicate d (pos 0) → parents ≡ replicate p missing → {a b : Refusal} → a ≡ b
-    → record { answer = REFUSED a; steps = 0; mates = mates; duals = duals; parents = parents } ≡ cleared (record { mates = m; duals = d; parents = p }) (REFUSED b) 0
+pub refused_plan : (m d p : ℕ) {mates parents : List ℕ} {duals : List ℤ}
+    → mates ≡ replicate m missing → duals ≡ replicate d (pos 0) → parents ≡ replicate p missing → {a b : Refusal} → a ≡ b
+    → record { answer = REFUSED a; steps = 0; mates = mates; duals = duals; parents = parents }
+    ≡ cleared (record { mates = m; duals = d; parents = p }) (REFUSED b) 0
 unfolding cleared
 refused_plan m d p hm hd hp h = λ i. record { answer = REFUSED (h i); steps = 0; mates = hm i; duals = hd i; parents = hp i }
 

@@ -1,4 +1,5 @@
--- What is known of `laid`: it keeps the length of what it is laid over, one more entry is one store, and where all entries fit, the front is the list of the fields.
+-- What is known of `laid`: it keeps the length of what it is laid over, one more entry is one store, and where all entries fit, the front
+-- is the list of the fields.
 -- Assumes nothing.
 use mathlib.Core.Path.{◌≡◌, refl, ap}
 use Prim.Native.Nat.{ℕ, zero, suc, ◌<◌, ◌≤◌}

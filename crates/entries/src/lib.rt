@@ -2,12 +2,14 @@
 // core works on those.
 #![tactic(auto)]
 
-ghost use Rattle.std.specs.Prelude.{◌≡◌, length, take};
-ghost use Rattle.steps.specs.Check.{check as check_of};
-ghost use Rattle.steps.specs.Plan.{plan as planned};
+ghost use Rattle.std.specs.Prelude.{◌≡◌, pos, length, replicate, take};
+ghost use Rattle.matching.specs.Graph.{missing};
+ghost use Rattle.matching.specs.Tests.{YES};
+ghost use Rattle.steps.specs.Check.{JUDGED, check as check_of};
+ghost use Rattle.steps.specs.Plan.{DONE, plan as planned};
 ghost use Rattle.certificate.specs.Lists.{room, certificate_of};
 ghost use Rattle.certificate.specs.View.{cause_of, judgement_of};
-ghost use Rattle.plan.specs.View.{plan_of};
+ghost use Rattle.plan.specs.View.{answer_of, plan_of};
 ghost use Rattle.entries.specs.Entries.{lists_of};
 ghost use Rattle.entries.specs.Calls.{edges_of, overfull, check_counted, plan_counted};
 
@@ -108,7 +110,7 @@ pub fn check(
     check_lists(n, split(edges), max_cardinality, mates, duals, parents)
 }
 
-// The lent lists are cleared where there are too many entries, as they are everywhere else.
+// The lent lists come cleared, and stay so where there are too many entries.
 fn plan_lists(
     n: usize,
     s: EdgeLists,
@@ -118,13 +120,13 @@ fn plan_lists(
     duals: &mut [i64],
     parents: &mut [u16],
 ) -> Answer
+    requires mates { mates.old ≡ replicate (length mates.old) missing }
+    requires duals { duals.old ≡ replicate (length duals.old) (pos 0) }
+    requires parents { parents.old ≡ replicate (length parents.old) missing }
     ensures { plan_of result mates.new duals.new parents.new ≡ plan_counted (room (length mates.old) (length duals.old) (length parents.old)) n s.count (take s.count s.first) (take s.count s.second) (take s.count s.weight) max_cardinality budget }
 {
     let m = s.count;
     if 2048 < m {
-        clear(mates);
-        clear_duals(duals);
-        clear(parents);
         return Answer::Refused(too_many(n));
     }
     let first = s.first;
@@ -143,7 +145,8 @@ fn plan_lists(
     )
 }
 
-// The plan call: the three lent lists hold the certificate where it is done, and are cleared otherwise, whatever they held.
+// The plan call. The three lent lists are cleared over their whole length before an entry is read. Where it is DONE they hold the
+// certificate, to which the check call answers YES; otherwise they stay cleared.
 pub fn plan(
     n: usize,
     edges: &[EdgeEntry],
@@ -153,8 +156,12 @@ pub fn plan(
     duals: &mut [i64],
     parents: &mut [u16],
 ) -> Answer
-    ensures { plan_of result mates.new duals.new parents.new ≡ planned (room (length mates.old) (length duals.old) (length parents.old)) n (edges_of edges.now) max_cardinality budget }
+    ensures said { plan_of result mates.new duals.new parents.new ≡ planned (room (length mates.old) (length duals.old) (length parents.old)) n (edges_of edges.now) max_cardinality budget }
+    ensures agreed { answer_of result ≡ DONE → check_of n (edges_of edges.now) max_cardinality (certificate_of mates.new duals.new parents.new) ≡ JUDGED YES }
 {
+    clear(mates);
+    clear_duals(duals);
+    clear(parents);
     plan_lists(
         n,
         split(edges),

@@ -1,3 +1,4 @@
 -- Laws of an expansion.
 pub mod FreeLaws
 pub mod WalkLaws
+pub mod RelabelLaws

@@ -1,5 +1,5 @@
 -- The walks round a ring, one law for each way through a turn.
-use Rattle.std.proofs.Common.{◌≡◌, ◌≢◌, ◌-◌, ℕ, List, Bool, true, false, eqb, length, refl, arith, sym}
+use Rattle.std.proofs.Common.{◌≡◌, ◌≢◌, ◌-◌, ◌+◌, ◌<◌, ℕ, List, Bool, true, false, eqb, length, refl, arith, sym}
 use Rattle.std.proofs.lemmas.Grind.{common_steps}
 use Rattle.laws.specs.Run.{Run, ok, fault, and_then, while, at}
 use Rattle.laws.proofs.Runs.{then_assoc, while_stop, while_torn, while_spent, while_broken, while_pass}
@@ -13,7 +13,7 @@ use Rattle.expand.specs.Told.{relabel_at, onward_at}
 not_same : (a b : ℕ) → a ≢ b → eqb a b ≡ false
 not_same a b n = grind (arith, common_steps, n)
 
-same : (a b : ℕ) → a ≡ b → eqb a b ≡ true
+pub same : (a b : ℕ) → a ≡ b → eqb a b ≡ true
 same a b e = grind (arith, common_steps, e)
 
 -- ---- to the base child
@@ -39,9 +39,15 @@ module _ (G : Graph) (b : ℕ) (forward : Bool) (left place p : ℕ) (s : State)
   pub walk_lost : place ≢ 0 → move here ≡ fault → while relabel_goes move left here ≡ fault
   walk_lost n e = while_broken relabel_goes move left here (goes n) e
 
-  pub walk_on : (j q : ℕ) (t : State) → place ≢ 0 → left ≢ 0 → move here ≡ ok (relabel_at j q t)
-      → while relabel_goes move (left - 1) (relabel_at j q t) ≡ while relabel_goes move left here
-  walk_on j q t n z e = sym (while_pass relabel_goes move left here (relabel_at j q t) (omega (arith, z)) (goes n) e)
+-- pass i of m
+module _ (G : Graph) (b : ℕ) (forward : Bool) (m i place p : ℕ) (s : State) where
+  pub walk_on : (j q : ℕ) (t : State) → place ≢ 0 → i < m → relabel_move G b forward (relabel_at place p s) ≡ ok (relabel_at j q t)
+      → while relabel_goes (relabel_move G b forward) (m - (i + 1)) (relabel_at j q t)
+      ≡ while relabel_goes (relabel_move G b forward) (m - i) (relabel_at place p s)
+  walk_on j q t n h e =
+      let a : m - (i + 1) ≡ m - i - 1 = omega arith in
+      rw a (sym (while_pass relabel_goes (relabel_move G b forward) (m - i) (relabel_at place p s) (relabel_at j q t) (omega arith)
+      (goes G b forward (m - i) place p s n) e))
 
 pub ruleset relabels = (walk_ends, walk_spent, walk_lost, walk_on)
 
@@ -91,10 +97,11 @@ module _ (G : Graph) (b entry : ℕ) (forward : Bool) (left place : ℕ) (s : St
       pub onward_lost : c ≢ entry → onward_child G c s ≡ fault → rest ≡ fault
       onward_lost n f = let d : step at_place ≡ fault = rw f at moved in rw (while_broken go step left at_place (more n) d) refl
 
-      pub onward_on : (t : State) → c ≢ entry → left ≢ 0 → onward_child G c s ≡ ok t
-          → and_then (while go step (left - 1) (next t)) (λ o. ok o.state) ≡ rest
-      onward_on t n z f =
+      pub onward_on : (m i : ℕ) (t : State) → left ≡ m - i → i < m → c ≢ entry → onward_child G c s ≡ ok t
+          → and_then (while go step (m - (i + 1)) (next t)) (λ o. ok o.state) ≡ rest
+      onward_on m i t z l n f =
           let d : step at_place ≡ ok (next t) = rw f at moved in
-          rw (while_pass go step left at_place (next t) (omega (arith, z)) (more n) d) refl
+          let a : m - (i + 1) ≡ left - 1 = omega (arith, z) in
+          rw (a, while_pass go step left at_place (next t) (omega (arith, z, l)) (more n) d) refl
 
 pub ruleset onwards = (onward_out, onward_none, onward_ends, onward_spent, onward_lost, onward_on)

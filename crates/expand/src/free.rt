@@ -38,8 +38,7 @@ fn keep_child(g: &Graph, lists: &mut Lists, nodes: &mut Stack, c: Group) -> Resu
 {
     nodes.clear();
     lists.leaves(g, c, nodes)?;
-    bring_top(lists, c, nodes.entries())?;
-    Ok(())
+    bring_top(lists, c, nodes.entries())
 }
 
 // Group b is no more, and its number is free.
@@ -54,10 +53,9 @@ fn retire(g: &Graph, lists: &mut Lists, b: Group) -> Result<(), Fault>
     lists.put_label_end(b.0, End(MISSING))?;
     lists.clear_children(b)?;
     lists.clear_ring_ends(b)?;
-    lists.put_base(b, Node(MISSING))?;
+    lists.put_base(b, Node::missing())?;
     lists.put_best(b.0, Edge(MISSING))?;
-    lists.free_number(g, b)?;
-    Ok(())
+    lists.free_number(g, b)
 }
 
 // A child group: at the end of a stage one with dual 0 is expanded in its turn.
@@ -80,12 +78,10 @@ fn free_group(
     if last {
         let d = lists.dual(c.0)?;
         if d == 0 {
-            expand_group(g, lists, nodes, depth, last, c)?;
-            return Ok(());
+            return expand_group(g, lists, nodes, depth, last, c);
         }
     }
-    keep_child(g, lists, nodes, c)?;
-    Ok(())
+    keep_child(g, lists, nodes, c)
 }
 
 // Child c becomes outermost.
@@ -107,11 +103,9 @@ fn free_child(
 {
     lists.put_parent(c, Group(MISSING))?;
     if c.0 < g.nodes() {
-        lists.put_top(Node(c.0), c)?;
-        return Ok(());
+        return lists.put_top(Node(c.0), c);
     }
-    free_group(g, lists, nodes, depth, last, c)?;
-    Ok(())
+    free_group(g, lists, nodes, depth, last, c)
 }
 
 // The children of b become outermost. They are read by their places, which stay while the lists change.
@@ -161,8 +155,7 @@ fn take_apart(
     if !last && l == 2 {
         relabel_ring(g, lists, nodes, b)?;
     }
-    retire(g, lists, b)?;
-    Ok(())
+    retire(g, lists, b)
 }
 
 // The same, where groups nest at most `depth` deep.
@@ -185,8 +178,7 @@ fn expand_group(
     if depth == 0 {
         return Err(Fault);
     }
-    take_apart(g, lists, nodes, depth - 1, last, b)?;
-    Ok(())
+    take_apart(g, lists, nodes, depth - 1, last, b)
 }
 
 // Group b is taken apart, at the end of a stage where `last`. Nodes is room for 2n.
@@ -203,6 +195,5 @@ pub fn expand(
     ensures size { sized lists.new ≡ sized lists.old }
     ensures room { nodes.new.room ≡ nodes.old.room }
 {
-    expand_group(g, lists, nodes, g.nodes(), last, b)?;
-    Ok(())
+    expand_group(g, lists, nodes, g.nodes(), last, b)
 }

@@ -20,8 +20,7 @@ pub(crate) fn unlabel(g: &Graph, lists: &mut Lists, p: End) -> Result<(), Fault>
     ensures kids { lists.new.forest.kids ≡ lists.old.forest.kids }
 {
     let w = g.endpoint(p.beside())?;
-    lists.put_label(w.0, 0)?;
-    Ok(())
+    lists.put_label(w.0, 0)
 }
 
 // The base child gets label 2 through end p, and passes none to its mate.
@@ -36,8 +35,7 @@ pub(crate) fn relabel_base(g: &Graph, lists: &mut Lists, base: Group, p: End) ->
     lists.put_label(base.0, 2)?;
     lists.put_label_end(v.0, p)?;
     lists.put_label_end(base.0, p)?;
-    lists.put_best(base.0, Edge(MISSING))?;
-    Ok(())
+    lists.put_best(base.0, Edge(MISSING))
 }
 
 // The first node with a label, or else the last; 0 where there is none.
@@ -70,12 +68,11 @@ fn pass_on(g: &Graph, lists: &mut Lists, c: Group, v: Node) -> Result<(), Fault>
     let u = g.endpoint(m)?;
     lists.put_label(u.0, 0)?;
     let p = lists.label_end(v.alone())?;
-    lists.label_two(g, v, p)?;
-    Ok(())
+    lists.label_two(g, v, p)
 }
 
 // Node v of child c was reached from outside: the child gets label 2 through the end that reached v.
-#[tactic(auto, unfolding(steps::specs::Expand::relabel_from, crate::specs::Parts::pass_on))]
+#[tactic(auto, unfolding(steps::specs::Expand::relabel_from))]
 fn relabel_from(g: &Graph, lists: &mut Lists, c: Group, v: Node) -> Result<(), Fault>
     requires { sized lists.old ≡ size_of g.now }
     ensures said { (at : Progress) → Agrees (relabel_from_of g.now c.0 v.0 (state_of lists.old at)) result (state_of lists.new at) }
@@ -85,10 +82,9 @@ fn relabel_from(g: &Graph, lists: &mut Lists, c: Group, v: Node) -> Result<(), F
     let l = lists.label(v.0)?;
     must(l == 2)?;
     let t = lists.top(v)?;
-    must(t.0 == c.0)?;
+    must(t == c)?;
     lists.put_label(v.0, 0)?;
-    pass_on(g, lists, c, v)?;
-    Ok(())
+    pass_on(g, lists, c, v)
 }
 
 // A child whose nodes may have been reached from outside.

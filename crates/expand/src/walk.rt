@@ -9,21 +9,21 @@ ghost use Rattle.expand.specs.Told.{Links, LinksOn, Relabels, relabel_at};
 
 use crate::relabel::{onward_child, relabel_base, unlabel};
 use edges::graph::Graph;
-use numbers::faults::{Fault, present, read};
+use numbers::faults::{Fault, must, present, read};
 use numbers::{End, Group};
 use state::lists::Lists;
 use state::places::{around, place_of};
 use state::pools::Stack;
 
 // A place in the ring, and the end through which its child is reached.
-#[derive(Clone, Copy)]
+#[derive(Clone, Copy, Debug, PartialEq, Eq)]
 pub(crate) struct Hop {
     pub(crate) place: u16,
     pub(crate) p: End,
 }
 
 // The ring of group b's children, and the direction of the walk: a bool, as the definition has it.
-#[derive(Clone, Copy)]
+#[derive(Clone, Copy, Debug, PartialEq, Eq)]
 pub(crate) struct Round {
     pub(crate) b: Group,
     pub(crate) forward: bool,
@@ -83,8 +83,7 @@ fn relabel_move(g: &Graph, lists: &mut Lists, ring: Round, k: Hop) -> Result<Hop
     Ok(next)
 }
 
-// From the child that was entered to the base child, two places at a time: at most 2n times. Moves are counted by hand, since the test
-// comes once more than they do.
+// From the child that was entered to the base child, two places at a time: at most 2n times.
 #[tactic(auto, using(crate::proofs::WalkLaws::relabels))]
 fn relabel_walk(g: &Graph, lists: &mut Lists, ring: Round, from: Hop) -> Result<Hop, Fault>
     requires { sized lists.old ≡ size_of g.now }
@@ -93,18 +92,17 @@ fn relabel_walk(g: &Graph, lists: &mut Lists, ring: Round, from: Hop) -> Result<
     ensures kids { lists.new.forest.kids ≡ lists.old.forest.kids }
 {
     let mut k = from;
-    let mut left = g.numbers();
-    while k.place != 0 {
-        if left == 0 {
-            return Err(Fault);
+    for _ in 0..g.numbers() {
+        if k.place == 0 {
+            return Ok(k);
         }
-        left -= 1;
         k = relabel_move(g, lists, ring, k)?;
     }
+    must(k.place == 0)?;
     Ok(k)
 }
 
-// From a place on to the child that was entered: at most 2n moves, counted as in `relabel_walk`.
+// From a place on to the child that was entered: at most 2n moves.
 #[tactic(auto, using(crate::proofs::WalkLaws::onwards))]
 fn onward(
     g: &Graph,
@@ -121,20 +119,17 @@ fn onward(
     ensures room { nodes.new.room ≡ nodes.old.room }
 {
     let mut place = from;
-    let mut left = g.numbers();
-    loop {
+    for _ in 0..g.numbers() {
         let kids = lists.children(ring.b)?;
-        let c = read(kids, place)?;
-        if c == entry.0 {
+        let c = Group(read(kids, place)?);
+        if c == entry {
             return Ok(());
         }
-        if left == 0 {
-            return Err(Fault);
-        }
-        left -= 1;
         place = around(ring.forward, kids.len() as u16, place);
-        onward_child(g, lists, nodes, Group(c))?;
+        onward_child(g, lists, nodes, c)?;
     }
+    let c = read(lists.children(ring.b)?, place)?;
+    must(Group(c) == entry)
 }
 
 // The children of group b get their labels: forward round the ring from an odd place, backward from an even one.
@@ -165,6 +160,5 @@ pub(crate) fn relabel_ring(
     let start = around(ring.forward, kids.len() as u16, 0);
     let k = relabel_walk(g, lists, ring, Hop { place: i, p: e })?;
     relabel_base(g, lists, Group(base?), k.p)?;
-    onward(g, lists, nodes, ring, entry, start)?;
-    Ok(())
+    onward(g, lists, nodes, ring, entry, start)
 }

@@ -1,5 +1,6 @@
 -- A child's own list, or the edges of its nodes; the nodes of a group are nodes.
-use Rattle.std.proofs.Common.{if◌then◌else◌, ◌≡◌, ◌≢◌, ◌<◌, ◌∙◌, List, [], ◌∷◌, ◌++◌, ℕ, zero, suc, Bool, true, false, ltb, length, refl, arith}
+use Rattle.std.proofs.Common.{if◌then◌else◌, ◌≡◌, ◌≢◌, ◌<◌, ◌∙◌, List, [], ◌∷◌, ◌++◌, ℕ, zero, suc, Bool, true, false}
+use Rattle.std.proofs.Common.{ltb, length, refl, arith, Result, Ok, Err}
 use lib.Dec.{T, ltb→lt}
 use Rattle.laws.specs.Lists.{Each}
 use Rattle.laws.specs.Run.{Run, ok, fault, ◌>>=◌, and_then, for_each, at, push}
@@ -10,6 +11,8 @@ use Rattle.steps.specs.Leaves.{leaves}
 use Rattle.steps.specs.State.{State}
 use Rattle.steps.specs.Add.{Link, Gathered, consider, consider_at, consider_child, gather}
 use Rattle.steps.specs.Stores.{put_best_list, put_best}
+use Rattle.numbers.specs.declared.faults.Fault.{Fault}
+use Rattle.numbers.specs.Answers.{Agrees}
 use Rattle.grouping.specs.Parts.{consider_own, at_end, gathered}
 
 module _ (G : Graph) (s : State) (new c : ℕ) (links : List Link) where
@@ -85,5 +88,11 @@ module _ (G : Graph) (new c : ℕ) (links : List Link) (s : State) where
   pub gather_lost : consider_own G s new c links ≡ fault → gather G new c (gathered links s) ≡ fault
   gather_lost e = gather_own ∙ rw e
 
-  pub gather_kept : (l : List Link) → consider_own G s new c links ≡ ok l → gather G new c (gathered links s) ≡ after l
+  gather_kept : (l : List Link) → consider_own G s new c links ≡ ok l → gather G new c (gathered links s) ≡ after l
   gather_kept l e = gather_own ∙ rw e
+
+  -- the child's list is forgotten, and r is what the store of its best edge answers
+  pub gather_ends : {B : Type 0} (l : List Link) (t u : State) (r : Result B Fault) → consider_own G s new c links ≡ ok l → put_best_list c [] s ≡ ok t
+      → Agrees (put_best c missing t) r u → Agrees (gather G new c (gathered links s)) r (gathered l u)
+  gather_ends l t u (Ok b) e p h = gather_kept l e ∙ rw (p, h)
+  gather_ends l t u (Err f) e p h = gather_kept l e ∙ rw (p, h)

@@ -5,3 +5,4 @@ pub mod LinkLaws
 pub mod PathLaws
 pub mod Positions
 pub mod TraceLaws
+pub mod RepeatLaws

@@ -36,8 +36,7 @@ fn add_parts(
     ring_up(g, lists, &room.ring, new, base)?;
     settle(lists, new, m.first)?;
     take_nodes(g, lists, new, &mut room.nodes)?;
-    best_edges(g, lists, room, new)?;
-    Ok(())
+    best_edges(g, lists, room, new)
 }
 
 // A new group of the two paths from the nodes of edge e back to their meeting point, the group of node base. The last of the free
@@ -55,6 +54,5 @@ pub fn add_group(
     ensures size { sized lists.new ≡ sized lists.old }
     ensures fits { RoomFits g.now.nodes room.new }
 {
-    add_parts(g, lists, room, base, e)?;
-    Ok(())
+    add_parts(g, lists, room, base, e)
 }

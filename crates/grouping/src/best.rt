@@ -36,8 +36,7 @@ pub fn gather(
 {
     consider_child(g, lists, links, nodes, new, c)?;
     lists.clear_best_list(c)?;
-    lists.put_best(c.0, Edge(MISSING))?;
-    Ok(())
+    lists.put_best(c.0, Edge(MISSING))
 }
 
 // All children in turn.
@@ -66,7 +65,7 @@ pub fn gather_all(
 pub fn keener(g: &Graph, lists: &Lists, e: Edge, best: Edge) -> Result<Edge, Fault>
     ensures { AnswersEdge (tightest_of g.now lists.now.pairing.lists.duals e.0 best.0) result }
 {
-    if best.0 == MISSING {
+    if best.is_missing() {
         return Ok(e);
     }
     let tight = lists.tighter(g, e, best)?;
@@ -103,6 +102,5 @@ pub fn best_edges(g: &Graph, lists: &mut Lists, room: &mut Room, new: Group) -> 
     )?;
     lists.put_best_list(new, room.links.edges())?;
     let best = tightest(g, lists, room.links.edges())?;
-    lists.put_best(new.0, best)?;
-    Ok(())
+    lists.put_best(new.0, best)
 }

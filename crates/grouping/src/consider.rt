@@ -30,8 +30,8 @@ pub fn consider(
 {
     let x = g.edge(e)?;
     let t = lists.top(x.second)?;
-    let j = if t.0 == new.0 { lists.top(x.first)? } else { t };
-    if j.0 != new.0 {
+    let j = if t == new { lists.top(x.first)? } else { t };
+    if j != new {
         links.consider_to(g, lists, j, e)?;
     }
     Ok(())
@@ -68,8 +68,7 @@ pub fn consider_end(
     ensures said { (at : Progress) → Agrees (at_end g.now (state_of lists.now at) new.0 p.0 links.old.links) result links.new.links }
     ensures size { links.new.nodes ≡ links.old.nodes }
 {
-    consider(g, lists, links, new, p.edge())?;
-    Ok(())
+    consider(g, lists, links, new, p.edge())
 }
 
 // The edge of each end of a list in turn. No closure joins it with consider_edges: its clause would be longer than this loop.
@@ -103,8 +102,7 @@ pub fn consider_at(
     ensures said { (at : Progress) → Agrees (consider_at_of g.now (state_of lists.now at) new.0 v.0 links.old.links) result links.new.links }
     ensures size { links.new.nodes ≡ links.old.nodes }
 {
-    consider_ends(g, lists, links, new, g.far_ends(v))?;
-    Ok(())
+    consider_ends(g, lists, links, new, g.far_ends(v))
 }
 
 // All edges at each node of a list in turn.
@@ -142,8 +140,7 @@ pub fn consider_leaves(
 {
     nodes.clear();
     lists.leaves(g, c, nodes)?;
-    consider_nodes(g, lists, links, new, nodes.entries())?;
-    Ok(())
+    consider_nodes(g, lists, links, new, nodes.entries())
 }
 
 // Child c's own list, or all edges of its nodes where it has none.
@@ -162,7 +159,7 @@ pub fn consider_child(
     ensures room { nodes.new.room ≡ nodes.old.room }
 {
     let own = lists.best_list(c)?;
-    if own.len() == 0 {
+    if own.is_empty() {
         consider_leaves(g, lists, links, nodes, new, c)?;
     } else {
         consider_edges(g, lists, links, new, own)?;

@@ -76,7 +76,7 @@ impl<'a> Links<'a> {
         ensures said { (at : Progress) → Agrees (consider_to_of g.now (state_of lists.now at) j.0 e.0 self.old.links) result self.new.links }
         ensures size { self.new.nodes ≡ self.old.nodes }
     {
-        let l = lists.label_of(j)?;
+        let l = lists.label(j.0)?;
         let len = self.len;
         if l != 1 {
             return Ok(());

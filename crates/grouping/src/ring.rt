@@ -1,7 +1,7 @@
 // The ring of a new group: its base's child first, then the first path backward, then the second path.
 ghost use Rattle.std.specs.Prelude.{◌≡◌, ◌*◌, ◌<◌, ◌≤◌, length};
 ghost use Rattle.std.specs.Result.{IfOk};
-ghost use Rattle.laws.specs.Lists.{member as member_of, repeats as repeats_of};
+ghost use Rattle.laws.specs.Lists.{repeats as repeats_of};
 ghost use Rattle.laws.specs.Run.{for_each};
 ghost use Rattle.steps.specs.State.{Progress};
 ghost use Rattle.steps.specs.Add.{fit_children as fit_children_of, adopt as adopt_of, ring_up as ring_up_of};
@@ -19,7 +19,7 @@ use numbers::{Edge, Group, MISSING, Node};
 use state::lists::Lists;
 
 // The outermost groups of the base and of an edge's two nodes.
-#[derive(Clone, Copy)]
+#[derive(Clone, Copy, Debug, PartialEq, Eq)]
 pub struct Meeting {
     pub first: Group,
     pub v: Group,
@@ -55,27 +55,17 @@ pub fn ring(g: &Graph, lists: &Lists, room: &mut Room, m: Meeting, e: Edge) -> R
     Ok(())
 }
 
-#[tactic(auto, unfolding(laws::specs::Lists::member))]
-fn member(list: &[u16], x: u16) -> bool
-    ensures { result ≡ member_of x list.now }
-{
-    for &y in list {
-        if y == x {
-            return true;
-        }
-    }
-    false
-}
-
-#[tactic(auto, unfolding(laws::specs::Lists::repeats))]
+// The entries after each are looked through for it.
+#[tactic(auto, using(crate::proofs::RepeatLaws::repeating))]
 fn repeats(list: &[u16]) -> bool
     ensures { result ≡ repeats_of list.now }
 {
-    // The place tells where the rest of the list begins.
-    for k in 0..list.len() {
-        if member(&list[k + 1..], list[k]) {
+    let mut left = list;
+    while let Some((x, rest)) = left.split_first() {
+        if rest.contains(x) {
             return true;
         }
+        left = rest;
     }
     false
 }
@@ -95,8 +85,7 @@ pub fn adopt(lists: &mut Lists, new: Group, c: Group) -> Result<(), Fault>
     ensures said { (at : Progress) → Agrees (adopt_of new.0 c.0 (state_of lists.old at)) result (state_of lists.new at) }
     ensures size { sized lists.new ≡ sized lists.old }
 {
-    lists.put_parent(c, new)?;
-    Ok(())
+    lists.put_parent(c, new)
 }
 
 pub fn adopt_all(lists: &mut Lists, new: Group, kids: &[u16]) -> Result<(), Fault>
@@ -133,6 +122,5 @@ pub fn ring_up(
     lists.put_parent(new, Group(MISSING))?;
     adopt_all(lists, new, kids)?;
     lists.put_children(new, kids)?;
-    lists.put_ring_ends(new, path.ends())?;
-    Ok(())
+    lists.put_ring_ends(new, path.ends())
 }

@@ -24,8 +24,7 @@ pub fn settle(lists: &mut Lists, new: Group, first: Group) -> Result<(), Fault>
     lists.put_label(new.0, 1)?;
     let e = lists.label_end(first)?;
     lists.put_label_end(new.0, e)?;
-    lists.put_dual(new.0, 0)?;
-    Ok(())
+    lists.put_dual(new.0, 0)
 }
 
 // Node v is queued if it had label 2, and its outermost group is the new one.
@@ -40,8 +39,7 @@ pub fn take_in(g: &Graph, lists: &mut Lists, new: Group, v: Node) -> Result<(), 
     if l == 2 {
         lists.enqueue(g, v)?;
     }
-    lists.put_top(v, new)?;
-    Ok(())
+    lists.put_top(v, new)
 }
 
 pub fn take_all(g: &Graph, lists: &mut Lists, new: Group, nodes: &[u16]) -> Result<(), Fault>
@@ -65,6 +63,5 @@ pub fn take_nodes(g: &Graph, lists: &mut Lists, new: Group, nodes: &mut Stack) -
 {
     nodes.clear();
     lists.leaves(g, new, nodes)?;
-    take_all(g, lists, new, nodes.entries())?;
-    Ok(())
+    take_all(g, lists, new, nodes.entries())
 }

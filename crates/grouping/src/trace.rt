@@ -13,7 +13,7 @@ use numbers::{End, Group};
 use state::lists::Lists;
 
 // The end through which a group got its label, and the group across.
-#[derive(Clone, Copy)]
+#[derive(Clone, Copy, Debug, PartialEq, Eq)]
 pub struct Back {
     pub end: End,
     pub to: Group,
@@ -25,14 +25,7 @@ pub fn traceable(lists: &Lists, b: Group, e: End) -> Result<bool, Fault>
     ensures { (at : Progress) → Answers (traceable_of (state_of lists.now at) b.0 e.0) result }
 {
     let l = lists.label(b.0)?;
-    if l == 2 {
-        return Ok(true);
-    }
-    if l == 1 {
-        let m = lists.base_mate(b)?;
-        return Ok(e.0 == m.0);
-    }
-    Ok(false)
+    Ok(l == 2 || l == 1 && e == lists.base_mate(b)?)
 }
 
 // One group back from b.
@@ -59,7 +52,7 @@ pub fn trace(g: &Graph, lists: &Lists, stop: Group, b: Group, path: &mut Path) -
     path.clear();
     // The path's room is the limit of moves, so none is counted.
     let mut here = b;
-    while here.0 != stop.0 {
+    while here != stop {
         let back = step_back(g, lists, here)?;
         path.push(here, back.end)?;
         here = back.to;

@@ -129,7 +129,8 @@ pub abs_double : (a : ℤ) → nat_abs (pos 2 *ℤ a) ≡ 2 * nat_abs a
 abs_double a = omega (arith, abs_parts (pos 2 *ℤ a), abs_parts a, double_parts a)
 
 pub abs_add : (a b : ℤ) → nat_abs (a +ℤ b) ≤ nat_abs a + nat_abs b
-abs_add a b = ⊎_elim (λ z. omega (arith, abs_parts (a +ℤ b), abs_parts a, abs_parts b, add_parts a b)) (λ z. omega (arith, abs_parts (a +ℤ b), abs_parts a, abs_parts b, add_parts a b)) (one_sided (a +ℤ b))
+abs_add a b = ⊎_elim (λ z. omega (arith, abs_parts (a +ℤ b), abs_parts a, abs_parts b, add_parts a b))
+    (λ z. omega (arith, abs_parts (a +ℤ b), abs_parts a, abs_parts b, add_parts a b)) (one_sided (a +ℤ b))
 
 -- a number less than 2^63 from 0 fits an i64
 mag_abs : (z : ℤ) → mag z ≤ nat_abs z

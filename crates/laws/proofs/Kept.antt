@@ -3,15 +3,15 @@
 use Rattle.std.specs.Prelude.{if◌then◌else◌}
 use mathlib.Core.Path.{◌≡◌, refl, subst}
 use mathlib.Core.Bool.{Bool, true, false}
-use mathlib.Core.List.{List, [], ◌∷◌, ◌++◌}
-use Prim.Native.Nat.{ℕ, zero, suc, ◌+◌, ◌≤◌, ◌<◌}
+use mathlib.Core.List.{List, [], ◌∷◌}
+use Prim.Native.Nat.{ℕ, zero, suc, ◌+◌, ◌<◌}
 use native.Mathlib.Omega.{arith}
-use lib.Dec.{T, eqb, ltb, ltb→lt}
-use lib.ListN.{length, get_or, set, length-append}
+use lib.Dec.{T, ltb, ltb→lt}
+use lib.ListN.{length, get_or, set}
 use Rattle.laws.proofs.Lists.{count_on}
-use Rattle.laws.specs.Run.{Run, ok, fault, ◌>>=◌, only_if, for_each, for_range, while, at, put, push, position_from}
+use Rattle.laws.specs.Run.{Run, ok, fault, ◌>>=◌, only_if, for_each, for_range, while, at, put}
 
-at_end : (k : ℕ) → k ≡ k + 0
+pub at_end : (k : ℕ) → k ≡ k + 0
 at_end k = omega arith
 
 pub data Kept {A : Type 0} (P : A → Type 0) : Run A → Type 0 where
@@ -42,15 +42,6 @@ module _ {A : Type 0} where
   kept_at (x ∷ xs) zero d = kept (omega arith, refl)
   kept_at (x ∷ xs) (suc i) d = kept_map (λ a p. (omega (arith, p.0), p.1)) (kept_at xs i d)
 
-  -- a push leaves no more than the cap
-  pub kept_push : (cap : ℕ) (v : A) (xs : List A) → Kept (λ ys. length ys ≤ cap) (push cap v xs)
-  unfolding push
-  kept_push cap v xs = go (ltb (length xs) cap) (ltb→lt (length xs) cap)
-    where
-      go : (t : Bool) → (T t → length xs < cap) → Kept (λ ys. length ys ≤ cap) (if t then ok (xs ++ (v ∷ [])) else fault)
-      go true f = kept {a = xs ++ (v ∷ [])} (rw (length-append xs (v ∷ [])) (omega (arith, f tt)))
-      go false f = torn
-
   pub kept_put : (xs : List A) (i : ℕ) (v : A) → Kept (λ ys. (i < length xs) × (ys ≡ set xs i v)) (put xs i v)
   unfolding put
   kept_put xs i v = go (ltb i (length xs)) (ltb→lt i (length xs))
@@ -59,30 +50,18 @@ module _ {A : Type 0} where
       go true f = kept (f tt, refl)
       go false f = torn
 
--- a place that is found is one of the list
-pub kept_position : (i x : ℕ) (ys : List ℕ) → Kept (λ j. j < i + length ys) (position_from i x ys)
-unfolding position_from
-kept_position i x [] = torn
-kept_position i x (y ∷ ys) = go (eqb y x) (kept_map (λ j h. omega (arith, h)) (kept_position (suc i) x ys))
-  where
-    go : (t : Bool) → Kept (λ j. j < i + suc (length ys)) (position_from (suc i) x ys) → Kept (λ j. j < i + suc (length ys)) (if t then ok i else position_from (suc i) x ys)
-    go true later = kept {a = i} (omega arith)
-    go false later = later
-
 module _ {S : Type 0} where
-  pub kept_if : {P : S → Type 0} (b : Bool) {x y : Run S} → Kept P x → Kept P y → Kept P (if b then x else y)
-  kept_if true p q = p
-  kept_if false p q = q
-
   pub kept_only_if : {P : S → Type 0} (b : Bool) (f : S → Run S) (s : S) → (T b → Kept P (f s)) → P s → Kept P (only_if b f s)
   kept_only_if true f s h p = h tt
   kept_only_if false f s h p = kept p
 
-  pub kept_for_each : {A : Type 0} {I : S → Type 0} {f : A → S → Run S} → ((x : A) (s : S) → I s → Kept I (f x s)) → (xs : List A) {s : S} → I s → Kept I (for_each f xs s)
+  pub kept_for_each : {A : Type 0} {I : S → Type 0} {f : A → S → Run S} → ((x : A) (s : S) → I s → Kept I (f x s)) → (xs : List A) {s : S} → I s
+      → Kept I (for_each f xs s)
   kept_for_each step [] h = kept h
   kept_for_each step (x ∷ xs) {s} h = kept_bind (step x s h) (λ t k. kept_for_each step xs k)
 
-  pub kept_for_range : (I : ℕ → S → Type 0) (f : ℕ → S → Run S) → ((i : ℕ) (s : S) → I i s → Kept (I (suc i)) (f i s)) → (from count : ℕ) (s : S) → I from s → Kept (I (from + count)) (for_range f from count s)
+  pub kept_for_range : (I : ℕ → S → Type 0) (f : ℕ → S → Run S) → ((i : ℕ) (s : S) → I i s → Kept (I (suc i)) (f i s)) → (from count : ℕ) (s : S)
+      → I from s → Kept (I (from + count)) (for_range f from count s)
   kept_for_range I f step from zero s h = kept (subst (λ (k : ℕ). I k s) (at_end from) h)
   kept_for_range I f step from (suc count) s h =
       subst (λ (k : ℕ). Kept (I k) (for_range f from (suc count) s)) (count_on from count)
@@ -98,7 +77,8 @@ module _ {S : Type 0} where
     last s (ok true) e h = torn
     last s (ok false) e h = kept (h, e)
 
-    next : (s : S) (m : ℕ) → ((t : S) → I t → Kept Stopped (while test body m t)) → (r : Run Bool) → test s ≡ r → I s → Kept Stopped (r >>= λ go. elim go [ true ↦ body s >>= λ t. while test body m t | false ↦ ok s ])
+    next : (s : S) (m : ℕ) → ((t : S) → I t → Kept Stopped (while test body m t)) → (r : Run Bool) → test s ≡ r → I s
+        → Kept Stopped (r >>= λ go. elim go [ true ↦ body s >>= λ t. while test body m t | false ↦ ok s ])
     next s m rest fault e h = torn
     next s m rest (ok true) e h = kept_bind (step s h e) (λ t k. rest t k)
     next s m rest (ok false) e h = kept (h, e)

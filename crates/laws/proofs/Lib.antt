@@ -9,5 +9,4 @@ pub mod Rows
 pub mod Kept
 pub mod Times
 pub mod Keeping
-pub mod Flips
 pub mod Ranges

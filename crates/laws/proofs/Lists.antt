@@ -88,7 +88,8 @@ some_kept P p e s (suc c) a t l h = go (p s) (eq-or-lt_of_le l) (λ q. rw q t) (
 pub pairs_kept : {R : ℕ → ℕ → Type 0} (p : ℕ → Bool) → ((e f : ℕ) → e < f → T (p e) → T (p f) → R e f) → (s c : ℕ) → EachPair R (keep p (range s c))
 unfolding keep range
 pairs_kept p f s zero = tt
-pairs_kept {R} p f s (suc c) = go (p s) (λ t. each_keep p (λ g l u. f s g l t u) (range (suc s) c) (each_range (suc s) c (λ g l m. l))) (pairs_kept p f (suc s) c)
+pairs_kept {R} p f s (suc c) = go (p s) (λ t. each_keep p (λ g l u. f s g l t u) (range (suc s) c) (each_range (suc s) c (λ g l m. l)))
+    (pairs_kept p f (suc s) c)
   where
     rest : List ℕ
     rest = keep p (range (suc s) c)

@@ -2,15 +2,14 @@
 use mathlib.Core.Path.{◌≡◌, refl}
 use mathlib.Core.Bool.{Bool, true, false, cond, ◌&&◌}
 use mathlib.Core.List.{List, [], ◌∷◌, ◌++◌, append-nil}
-use Prim.Native.Nat.{ℕ, zero, suc, ◌+◌, ◌*◌, ◌-◌, ◌<◌, ◌≤◌}
+use Prim.Native.Nat.{ℕ, zero, suc, ◌+◌, ◌-◌, ◌<◌, ◌≤◌}
 use native.Mathlib.Nat.{le_of_suc-le-suc, not-suc-le-zero}
 use native.Mathlib.Numerals.{add-one}
 use native.Mathlib.Omega.{arith}
-use borrow.Author.Tests.{eq-eqb, ne_eqb}
 use lib.Dec.{T}
-use lib.ListN.{length, get_or, drop, drop_of_length-le}
-use lib.Seq.{drop-cons}
-use Rattle.laws.specs.Lists.{Each, all, keep, member, range, sum}
+use lib.ListN.{length, get_or}
+use Rattle.std.specs.List.{list_all, range_with_len}
+use Rattle.laws.specs.Lists.{Each, all, keep, range, sum}
 
 pub get_d_any : {A : Type 0} (l : List A) (i : ℕ) (d d' : A) → i < length l → get_or l i d ≡ get_or l i d'
 get_d_any [] i d d' h = absurd (not-suc-le-zero h)
@@ -41,15 +40,6 @@ pub range_none : (i end : ℕ) → end ≤ i → range i (end - i) ≡ []
 unfolding range
 range_none i end h = let e : end - i ≡ 0 = omega arith in rw e
 
-pub all_start : (p : ℕ → Bool) (end : ℕ) → all p (range 0 (end - 0)) ≡ all p (range 0 end)
-all_start p end = let e : end - 0 ≡ end = omega arith in rw e
-
-pub all_from : (p : ℕ → Bool) (n : ℕ) → all p (range n (2 * n - n)) ≡ all p (range n n)
-all_from p n = let e : 2 * n - n ≡ n = omega arith in rw e
-
-pub sum_start : (f : ℕ → ℕ) (end : ℕ) → 0 + sum (range 0 (end - 0)) f ≡ sum (range 0 end) f
-sum_start f end = let e : end - 0 ≡ end = omega arith in rw e (omega arith)
-
 module _ (p : ℕ → Bool) {whole : Bool} (i end : ℕ) where
   pub all_next : i < end → p i ≡ true → all p (range i (end - i)) ≡ whole → all p (range (i + 1) (end - (i + 1))) ≡ whole
   unfolding all
@@ -71,6 +61,12 @@ module _ (f : ℕ → ℕ) {whole : ℕ} (s i end : ℕ) where
   pub sum_end : end ≤ i → s + sum (range i (end - i)) f ≡ whole → s ≡ whole
   unfolding sum
   sum_end h w = omega (arith, rw (range_none i end h) at w)
+
+-- the numbers that std's range gives
+pub all_ranged : (p : ℕ → Bool) (a n : ℕ) → list_all p (range_with_len a n) ≡ all p (range a n)
+unfolding all range
+all_ranged p a zero = refl
+all_ranged p a (suc n) = rw (add-one a, all_ranged p (suc a) n)
 
 -- tests that agree on the numbers from s on
 pub all_same : (p q : ℕ → Bool) (s c : ℕ) → ((i : ℕ) → s ≤ i → i < s + c → p i ≡ q i) → all p (range s c) ≡ all q (range s c)
@@ -95,17 +91,6 @@ all_both p q (x ∷ xs) = rw (all_both p q xs) (go (p x) (q x) (all p xs) (all q
     go true false false d = refl
     go false b c d = refl
 
--- ---- the entries of a list from place k on
-
-module _ (f : ℕ → ℕ) {whole : ℕ} (s k : ℕ) (l : List ℕ) where
-  pub entries_next : k < length l → s + sum (drop k l) f ≡ whole → s + f (get_or l k 0) + sum (drop (k + 1) l) f ≡ whole
-  unfolding sum
-  entries_next h w = rw add-one (omega (arith, rw (drop-cons l k 0 h) at w))
-
-  pub entries_end : length l ≤ k → s + sum (drop k l) f ≡ whole → s ≡ whole
-  unfolding sum
-  entries_end h w = omega (arith, rw (drop_of_length-le l h) at w)
-
 -- ---- the entries kept so far
 
 module _ (p : ℕ → Bool) where
@@ -115,7 +100,9 @@ module _ (p : ℕ → Bool) where
     where
       zero_add : (s : ℕ) → s + 0 ≡ s
       zero_add s = omega arith
-  keep_snoc s (suc c) = let e : s + suc c ≡ suc s + c = omega arith in rw (e, keep_snoc (suc s) c) (go (p s) (keep p (range (suc s) c)) (cond (p (suc s + c)) ((suc s + c) ∷ []) []))
+  keep_snoc s (suc c) =
+      let e : s + suc c ≡ suc s + c = omega arith in
+      rw (e, keep_snoc (suc s) c) (go (p s) (keep p (range (suc s) c)) (cond (p (suc s + c)) ((suc s + c) ∷ []) []))
     where
       go : (t : Bool) (a b : List ℕ) → cond t (s ∷ (a ++ b)) (a ++ b) ≡ cond t (s ∷ a) a ++ b
       go true a b = refl
@@ -131,17 +118,3 @@ module _ (p : ℕ → Bool) where
 pub each_get_or : {A : Type 0} (P : A → Type 0) (l : List A) (d : A) → ((i : ℕ) → i < length l → P (get_or l i d)) → Each P l
 each_get_or P [] d f = tt
 each_get_or P (x ∷ xs) d f = (f 0 (omega arith), each_get_or P xs d (λ i h. f (suc i) (omega arith)))
-
--- a number is looked for from place k on
-module _ (b : ℕ) (l : List ℕ) {whole : Bool} (k : ℕ) where
-  pub find_here : k < length l → get_or l k 0 ≡ b → member b (drop k l) ≡ whole → true ≡ whole
-  unfolding member
-  find_here h e w = rw (drop-cons l k 0 h, eq-eqb (get_or l k 0) b e) at w
-
-  pub find_next : k < length l → (get_or l k 0 ≡ b → ⊥) → member b (drop k l) ≡ whole → member b (drop (k + 1) l) ≡ whole
-  unfolding member
-  find_next h e w = rw add-one (rw (drop-cons l k 0 h, ne_eqb (get_or l k 0) b e) at w)
-
-  pub find_none : length l ≤ k → member b (drop k l) ≡ whole → false ≡ whole
-  unfolding member
-  find_none h w = rw (drop_of_length-le l {i = k} h) at w

@@ -8,7 +8,8 @@ use native.Mathlib.Nat.{not-suc-le-zero, le_of_suc-le-suc, add-zero, mul-le-mul_
 use native.Mathlib.Omega.{arith}
 use lib.Dec.{T, ltb, ltb→lt, nltb→le}
 use lib.ListN.{length, get_or, set, take, drop, length-take, length-drop, length-append, replicate}
-use lib.Seq.{get_or-take, get_or-drop, drop-set-add, drop-set-lt, take-set-le, take_at, take_all, take-take, drop_at, take-append-le, drop-append-le, drop-append-add}
+use lib.Seq.{get_or-take, get_or-drop, take_at, take_all, take-take, drop_at, take-append-le}
+use lib.Seq.{drop-append-le, drop-append-add}
 use Rattle.laws.specs.Lists.{range}
 use Rattle.laws.specs.Run.{ok, fault, at, put}
 use Rattle.laws.specs.Rows.{rows, places, row_of}
@@ -39,7 +40,8 @@ module _ {A : Type 0} where
   same_rows_from f f' from (suc k) e =
       ap₂ {C = List A} ◌∷◌ (e from (omega arith)) (same_rows_from f f' (suc from) k (λ j h. e j (omega arith)))
 
-  set_rows_from : (f f' : ℕ → A) (v : A) (from k i : ℕ) → f' (from + i) ≡ v → ((j : ℕ) → j ≢ from + i → f j ≡ f' j) → set (map f (range from k)) i v ≡ map f' (range from k)
+  set_rows_from : (f f' : ℕ → A) (v : A) (from k i : ℕ) → f' (from + i) ≡ v → ((j : ℕ) → j ≢ from + i → f j ≡ f' j)
+      → set (map f (range from k)) i v ≡ map f' (range from k)
   unfolding range
   set_rows_from f f' v from zero i e n = refl
   set_rows_from f f' v from (suc k) zero e n =
@@ -79,38 +81,22 @@ before : (width a b : ℕ) → a < b → a * width + width ≤ b * width
 before width a b h = omega (arith, mul-le-mul_right width h)
 
 module _ {A : Type 0} (width : ℕ) where
-  pub row_of_length : (counts : List ℕ) (pool : List A) (g : ℕ) → g * width + width ≤ length pool → length (row_of width counts pool g) ≡ min (get_or counts g 0) width
+  pub row_of_length : (counts : List ℕ) (pool : List A) (g : ℕ) → g * width + width ≤ length pool
+      → length (row_of width counts pool g) ≡ min (get_or counts g 0) width
   row_of_length counts pool g h = simp (length-take, length-drop) (omega arith)
 
   -- entry k of row g is the pool's at g * width + k
-  pub row_of_at : (counts : List ℕ) (pool : List A) (g k : ℕ) (d : A) → k < min (get_or counts g 0) width → get_or (row_of width counts pool g) k d ≡ get_or pool (g * width + k) d
+  pub row_of_at : (counts : List ℕ) (pool : List A) (g k : ℕ) (d : A) → k < min (get_or counts g 0) width
+      → get_or (row_of width counts pool g) k d ≡ get_or pool (g * width + k) d
   row_of_at counts pool g k d h =
       get_or-take (get_or counts g 0) (places width pool g) k d (omega arith)
       ∙ get_or-take width (drop (g * width) pool) k d (omega arith)
       ∙ get_or-drop (g * width) pool k d
 
-  pub at_row_of : (counts : List ℕ) (pool : List A) (g k : ℕ) (d : A) → g * width + width ≤ length pool → k < min (get_or counts g 0) width → at (row_of width counts pool g) k ≡ ok (get_or pool (g * width + k) d)
+  pub at_row_of : (counts : List ℕ) (pool : List A) (g k : ℕ) (d : A) → g * width + width ≤ length pool → k < min (get_or counts g 0) width
+      → at (row_of width counts pool g) k ≡ ok (get_or pool (g * width + k) d)
   at_row_of counts pool g k d h l =
       at_in (row_of width counts pool g) k d (rw (row_of_length counts pool g h) l) ∙ ap ok (row_of_at counts pool g k d l)
-
-  -- a store in row g's places leaves the places of the others
-  pub places_other : (pool : List A) (g k : ℕ) (v : A) (j : ℕ) → j ≢ g → k < width → places width (set pool (g * width + k) v) j ≡ places width pool j
-  places_other pool g k v j n l = go (ltb j g) (ltb→lt j g) (nltb→le j g)
-    where
-      -- the store lies past row j
-      past : j < g → places width (set pool (g * width + k) v) j ≡ places width pool j
-      past h =
-          let far : g * width + k ≡ j * width + (g * width + k - j * width) = omega (arith, before width j g h) in
-          rw (far, drop-set-add (j * width) pool (g * width + k - j * width) v)
-          (take-set-le width (drop (j * width) pool) (g * width + k - j * width) v (omega (arith, before width j g h)))
-
-      -- the store lies ahead of row j
-      ahead : g < j → places width (set pool (g * width + k) v) j ≡ places width pool j
-      ahead h = rw (drop-set-lt (j * width) pool (g * width + k) v (omega (arith, before width g j h)))
-
-      go : (t : Bool) → (T t → j < g) → (T (not t) → g ≤ j) → places width (set pool (g * width + k) v) j ≡ places width pool j
-      go true f h = past (f tt)
-      go false f h = ahead (⊎_elim (λ e. absurd (n (sym e))) (λ q. q) (eq-or-lt_of_le (h tt)))
 
   -- ---- a row rewritten whole: the pool is a, the row's entries in use, and what is after them
 
@@ -125,7 +111,8 @@ module _ {A : Type 0} (width : ℕ) where
     pub row_whole : (counts : List ℕ) (r : List A) → length r ≡ min (get_or counts g 0) width → row_of width counts (a ++ (r ++ c)) g ≡ r
     row_whole counts r h = rw (drop_at a (r ++ c) (g * width) e) (cut_twice (get_or counts g 0) width r c h)
 
-    pub other_row : (r r' : List A) → length r ≡ length r' → length r ≤ width → (j : ℕ) → j ≢ g → places width (a ++ (r ++ c)) j ≡ places width (a ++ (r' ++ c)) j
+    pub other_row : (r r' : List A) → length r ≡ length r' → length r ≤ width → (j : ℕ) → j ≢ g
+        → places width (a ++ (r ++ c)) j ≡ places width (a ++ (r' ++ c)) j
     other_row r r' h l j d = go (ltb j g) (ltb→lt j g) (nltb→le j g)
       where
         early : (z : List A) → j < g → places width (a ++ z) j ≡ take width (drop (j * width) a)
@@ -139,7 +126,8 @@ module _ {A : Type 0} (width : ℕ) where
             let far : g * width + width ≤ j * width = before width g j m in
             let both : length (a ++ x) ≡ g * width + length r = length-append a x ∙ omega arith in
             let place : j * width ≡ length (a ++ x) + (j * width - (g * width + length r)) = omega arith in
-            ap (take width) (ap (drop (j * width)) (sym (append_assoc a x c)) ∙ ap (λ (k : ℕ). drop k ((a ++ x) ++ c)) place ∙ drop-append-add (a ++ x) c (j * width - (g * width + length r)))
+            ap (take width) (ap (drop (j * width)) (sym (append_assoc a x c)) ∙ ap (λ (k : ℕ). drop k ((a ++ x) ++ c)) place
+            ∙ drop-append-add (a ++ x) c (j * width - (g * width + length r)))
 
         go : (t : Bool) → (T t → j < g) → (T (not t) → g ≤ j) → places width (a ++ (r ++ c)) j ≡ places width (a ++ (r' ++ c)) j
         go true f k = early (r ++ c) (f tt) ∙ sym (early (r' ++ c) (f tt))

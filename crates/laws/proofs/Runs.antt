@@ -76,7 +76,8 @@ module _ {S : Type 0} (f : ℕ → S → Run S) where
   for_range_pass i (suc c) (ok s) h = rw (add-one, sub-one)
   for_range_pass i (suc c) fault h = refl
 
-  pub for_range_next : {whole : Run S} (i c : ℕ) (r r' : Run S) → 0 < c → r' ≡ and_then r (f i) → and_then r (for_range f i c) ≡ whole → and_then r' (for_range f (i + 1) (c - 1)) ≡ whole
+  pub for_range_next : {whole : Run S} (i c : ℕ) (r r' : Run S) → 0 < c → r' ≡ and_then r (f i) → and_then r (for_range f i c) ≡ whole
+      → and_then r' (for_range f (i + 1) (c - 1)) ≡ whole
   for_range_next i c r r' h e w = rw e (sym (for_range_pass i c r h) ∙ w)
 
   pub for_range_end : {whole : Run S} (i c : ℕ) (r : Run S) → c ≡ 0 → and_then r (for_range f i c) ≡ whole → r ≡ whole
@@ -86,7 +87,8 @@ module _ {S : Type 0} (f : ℕ → S → Run S) where
 -- ---- for x in xs, where the code goes by places: what is left is the list from place i on
 
 module _ {A S : Type 0} (f : A → S → Run S) where
-  pub for_each_next : {whole : Run S} (xs : List A) (d : A) (i : ℕ) (r r' : Run S) → i < length xs → r' ≡ and_then r (f (get_or xs i d)) → and_then r (for_each f (drop i xs)) ≡ whole → and_then r' (for_each f (drop (i + 1) xs)) ≡ whole
+  pub for_each_next : {whole : Run S} (xs : List A) (d : A) (i : ℕ) (r r' : Run S) → i < length xs → r' ≡ and_then r (f (get_or xs i d))
+      → and_then r (for_each f (drop i xs)) ≡ whole → and_then r' (for_each f (drop (i + 1) xs)) ≡ whole
   for_each_next xs d i (ok s) r' h e w = rw (e, add-one) (rw (drop-cons xs i d h) at w)
   for_each_next xs d i fault r' h e w = rw e w
 

@@ -12,7 +12,7 @@ use lib.Ieee.Fits.{eq→eqb}
 use lib.ListN.{length, get_or, take, drop, take-append-drop, length-append}
 use Rattle.laws.specs.Lists.{Each, range, bit, sum, member, repeats}
 use Rattle.laws.specs.Times.{times}
-use Rattle.laws.proofs.Lists.{sum_add, sum_zero, each}
+use Rattle.laws.proofs.Lists.{sum_add, sum_zero, sum_le, each}
 
 -- ---- two numbers
 
@@ -161,6 +161,16 @@ unfolding times
 times_total N [] h = sum_zero (λ x. 0) (range 0 N) (each (λ x. refl) (range 0 N))
 times_total N (y ∷ ys) h =
     omega (arith, sum_add (λ x. bit (eqb y x)) (λ x. times x ys) (range 0 N), one_share y 0 N zero-le (omega (arith, h.0)), times_total N ys h.1)
+
+times_total_le : (N : ℕ) (xs : List ℕ) → sum (range 0 N) (λ x. times x xs) ≤ length xs
+unfolding times
+times_total_le N [] = omega (arith, sum_zero (λ x. 0) (range 0 N) (each (λ x. refl) (range 0 N)))
+times_total_le N (y ∷ ys) = omega (arith, sum_add (λ x. bit (eqb y x)) (λ x. times x ys) (range 0 N), share_le y 0 N, times_total_le N ys)
+
+-- a list that holds no number more often than another is no longer
+pub no_longer : (N : ℕ) (xs ys : List ℕ) → Each (λ x. x < N) xs → ((x : ℕ) → times x xs ≤ times x ys) → length xs ≤ length ys
+no_longer N xs ys h le =
+    omega (arith, times_total N xs h, times_total_le N ys, sum_le (λ x. times x xs) (λ x. times x ys) (range 0 N) (each le (range 0 N)))
 
 -- ---- sums over a range
 

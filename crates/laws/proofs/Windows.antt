@@ -1,14 +1,14 @@
 -- Reads and stores of a list, and of a window: the first k entries of a list with room for more, as an array holds a list.
 use mathlib.Core.Path.{◌≡◌, refl, sym, ap, ◌∙◌}
 use mathlib.Core.List.{List, [], ◌∷◌, ◌++◌, append-nil}
-use Prim.Native.Nat.{ℕ, zero, suc, ◌+◌, ◌-◌, ◌≤◌, ◌<◌}
+use Prim.Native.Nat.{ℕ, zero, suc, ◌+◌, ◌≤◌, ◌<◌}
 use native.Mathlib.Nat.{le_of_suc-le-suc, not-suc-le-zero, zero-add, suc-add}
 use native.Mathlib.Numerals.{add-one}
 use native.Mathlib.Omega.{arith}
 use borrow.Author.Tests.{lt-ltb, le-ltb}
-use lib.ListN.{length, get_or, set, take, replicate, length-take, length-replicate, drop, drop_of_length-le}
-use lib.Seq.{take-suc, take-suc-set, take_all, take-append-add}
-use Rattle.laws.specs.Run.{Run, ok, fault, at, put, push, and_then}
+use lib.ListN.{length, get_or, set, take, replicate, length-take, drop, drop_of_length-le}
+use lib.Seq.{take-suc, take-suc-set, take_all}
+use Rattle.laws.specs.Run.{ok, fault, at, put, push}
 use mathlib.Core.Bool.{Bool, true, false, not}
 use lib.Dec.{T, ltb, ltb→lt, nltb→le}
 use Rattle.laws.proofs.Runs.{not_ok}
@@ -52,14 +52,6 @@ module _ {A : Type 0} where
       go true f g = not_ok (sym e ∙ put_in xs i v (f tt))
       go false f g = g tt
 
-  -- a read whose answer is not used goes unnoticed before what faults where a store to that entry does
-  pub at_unused : {B : Type 0} (xs : List A) (i : ℕ) (v : A) (r : Run B) → (put xs i v ≡ fault → r ≡ fault) → and_then (at xs i) (λ _. r) ≡ r
-  at_unused xs i v r f = go (ltb i (length xs)) (ltb→lt i (length xs)) (nltb→le i (length xs))
-    where
-      go : (t : Bool) → (T t → i < length xs) → (T (not t) → length xs ≤ i) → and_then (at xs i) (λ _. r) ≡ r
-      go true h g = rw (at_in xs i v (h tt))
-      go false h g = rw (at_out xs i (g tt)) (sym (f (put_out xs i v (g tt))))
-
   -- ---- a window
 
   -- a store and a cut change places, wherever the store is
@@ -75,27 +67,9 @@ module _ {A : Type 0} where
   take_replicate (suc k) zero v h = absurd (not-suc-le-zero h)
   take_replicate (suc k) (suc n) v h = ap {B = List A} (λ r. v ∷ r) (take_replicate k n v (le_of_suc-le-suc h))
 
-  -- and how long it is
-  pub part_length : {xs : List A} (n : ℕ) (v : A) (k : ℕ) → xs ≡ replicate n v → k ≤ n → k ≡ length (take k xs)
-  part_length n v k e h = rw (e, take_replicate k n v h, length-replicate k v)
-
   pub drop_replicate : (k n : ℕ) (v : A) → drop k (replicate (k + n) v) ≡ replicate n v
   drop_replicate zero n v = rw zero-add
   drop_replicate (suc k) n v = rw (suc-add k n) (drop_replicate k n v)
-
-  -- the first k + j of a list whose first k were written anew, and which else holds one entry throughout
-  pub take_written : (new : List A) (k j n : ℕ) (v : A) → length new ≡ k → k + j ≤ n → take (k + j) (new ++ drop k (replicate n v)) ≡ new ++ replicate j v
-  take_written new k j n v e h =
-      let m : n ≡ k + (n - k) = omega arith in
-      let r : drop k (replicate n v) ≡ replicate (n - k) v = ap (λ (i : ℕ). drop k (replicate i v)) m ∙ drop_replicate k (n - k) v in
-      rw (r, ← e) (take-append-add new (replicate (n - length new) v) j ∙ ap {B = List A} (λ t. new ++ t) (take_replicate j (n - length new) v (omega arith)))
-
-  -- a push onto a window
-  pub push_window : (xs : List A) (cap k : ℕ) (v : A) → k < cap → k < length xs → push cap v (take k xs) ≡ ok (take (k + 1) (set xs k v))
-  unfolding push
-  push_window xs cap k v h l =
-      let e : length (take k xs) < cap = rw (length-take k xs) (omega arith) in
-      rw (lt-ltb (length (take k xs)) cap e, add-one, take-suc-set xs k v l)
 
   pub push_window_out : (xs : List A) (cap k : ℕ) (v : A) → cap ≤ k → cap ≤ length xs → push cap v (take k xs) ≡ fault
   unfolding push
@@ -105,7 +79,8 @@ module _ {A : Type 0} where
 
   -- ---- a copy, entry by entry
 
-  pub copy_next : (from to : List A) (i : ℕ) (d : A) → i < length from → i < length to → take i to ≡ take i from → take (i + 1) (set to i (get_or from i d)) ≡ take (i + 1) from
+  pub copy_next : (from to : List A) (i : ℕ) (d : A) → i < length from → i < length to → take i to ≡ take i from
+      → take (i + 1) (set to i (get_or from i d)) ≡ take (i + 1) from
   copy_next from to i d h l e = rw (add-one, take-suc-set to i (get_or from i d) l, take-suc from i d h, e)
 
   pub copy_end : (from to : List A) (i : ℕ) → length to ≡ length from → length from ≤ i → take i to ≡ take i from → to ≡ from
@@ -115,14 +90,16 @@ module _ {A : Type 0} where
 
   -- ---- a list d that is written from the front: after i stores it is `take i new ++ drop i d`
 
-  write_suc : (d new : List A) (i : ℕ) (z : A) → i < length d → i < length new → set (take i new ++ drop i d) i (get_or new i z) ≡ take (suc i) new ++ drop (suc i) d
+  write_suc : (d new : List A) (i : ℕ) (z : A) → i < length d → i < length new
+      → set (take i new ++ drop i d) i (get_or new i z) ≡ take (suc i) new ++ drop (suc i) d
   write_suc (y ∷ d) (x ∷ new) zero z h l = refl
   write_suc (y ∷ d) (x ∷ new) (suc i) z h l =
       ap {B = List A} (λ r. x ∷ r) (write_suc d new i z (le_of_suc-le-suc h) (le_of_suc-le-suc l))
   write_suc [] new i z h l = absurd (not-suc-le-zero h)
   write_suc (y ∷ d) [] i z h l = absurd (not-suc-le-zero l)
 
-  pub write_more : (d new : List A) (i : ℕ) (z : A) → i < length d → i < length new → set (take i new ++ drop i d) i (get_or new i z) ≡ take (i + 1) new ++ drop (i + 1) d
+  pub write_more : (d new : List A) (i : ℕ) (z : A) → i < length d → i < length new
+      → set (take i new ++ drop i d) i (get_or new i z) ≡ take (i + 1) new ++ drop (i + 1) d
   write_more d new i z h l = rw add-one (write_suc d new i z h l)
 
   pub write_all : (d new : List A) (i : ℕ) → length d ≤ i → length new ≤ i → take i new ++ drop i d ≡ new

@@ -1,7 +1,6 @@
 -- Lists: a fact of each entry, of some entry, of any two; ranges of numbers, the entries that pass a test; sums of naturals and of integers.
 -- Definitions only.
-use Rattle.std.specs.Prelude.{Bool, true, false, cond, ◌&&◌, ◌||◌, ◌⊎◌, List, [], ◌∷◌, ◌++◌, reverse, ℕ, zero, suc, ◌+◌, ℤ, pos, ◌+ℤ◌, eqb, take, drop}
-use Rattle.std.proofs.Math.Seq.{slice}
+use Rattle.std.specs.Prelude.{Bool, true, false, cond, ◌&&◌, ◌||◌, ◌⊎◌, List, [], ◌∷◌, ℕ, zero, suc, ◌+◌, ℤ, pos, ◌+ℤ◌, eqb}
 
 -- ---- facts
 
@@ -29,10 +28,6 @@ range from (suc count) = from ∷ range (suc from) count
 unfoldable pub keep : {A : Type 0} → (A → Bool) → List A → List A
 keep p [] = []
 keep p (x ∷ xs) = cond (p x) (x ∷ keep p xs) (keep p xs)
-
--- the list with its entries from place f on, before place t, in reverse order
-unfoldable pub flipped : {A : Type 0} → (f t : ℕ) → List A → List A
-flipped f t l = take f l ++ (reverse (slice f t l) ++ drop t l)
 
 -- ---- tests
 

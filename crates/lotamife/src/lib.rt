@@ -8,7 +8,8 @@ ghost use Rattle.steps.specs.Check.{judgement_number, judgement_place};
 ghost use Rattle.plan.specs.View.{plan_lists};
 ghost use Rattle.lotamife.specs.View.{Planned};
 
-// The plan call. The result is the answer's number, 0 to 8; its place and the steps completed are always written.
+// The plan call. The result is the answer's number, 0 to 8; its place and the steps completed are always written. Where it is 0, the check
+// call answers 0 to what is left in the lists.
 pub fn lotamife_plan(
     n: usize,
     first: &[u16],
@@ -22,7 +23,8 @@ pub fn lotamife_plan(
     place: &mut u32,
     steps: &mut u32,
 ) -> u32
-    ensures { Planned (plan_lists (room (length mates.old) (length duals.old) (length parents.old)) n first.now second.now weight.now max_cardinality budget) result place.new steps.new mates.new duals.new parents.new }
+    ensures said { Planned (plan_lists (room (length mates.old) (length duals.old) (length parents.old)) n first.now second.now weight.now max_cardinality budget) result place.new steps.new mates.new duals.new parents.new }
+    ensures agreed { result ≡ 0 → judgement_number (check_lists n first.now second.now weight.now max_cardinality (certificate_of mates.new duals.new parents.new)) ≡ 0 }
 {
     let answer = plan::plan(
         n,

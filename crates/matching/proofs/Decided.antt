@@ -14,8 +14,11 @@ use Rattle.laws.proofs.Decides.{Decides, said, both, either, given, equal, at_mo
 use Rattle.laws.proofs.Lists.{each}
 use Rattle.matching.specs.Graph.{Graph, edge_count, missing, beside, node_at, WellFormed}
 use Rattle.matching.specs.Matching.{Optimal}
-use Rattle.matching.specs.Certificate.{Certificate, mate_of, dual_of, parent_of, max_dual, matched, pairs, climb, size, within, full_slack, offset, NamedBack, Climbs, DualFits, Full, Condition, MATE, PARENT, DUAL, EDGE, TIGHT, FREE, FULL, conditions, MateHolds, Holds, Passes}
-use Rattle.matching.specs.Tests.{mate_test, climb_ends, parent_test, dual_test, edge_test, tight_test, free_test, full_test, mates_pass, passes, Verdict, YES, NO, verdict_of, verdict, FirstFailing, Says}
+use Rattle.matching.specs.Certificate.{Certificate, mate_of, dual_of, parent_of, max_dual, matched, pairs, climb, size, within, full_slack}
+use Rattle.matching.specs.Certificate.{offset, NamedBack, Climbs, DualFits, Full, Condition, MATE, PARENT, DUAL, EDGE, TIGHT, FREE, FULL}
+use Rattle.matching.specs.Certificate.{conditions, MateHolds, Holds, Passes}
+use Rattle.matching.specs.Tests.{mate_test, climb_ends, parent_test, dual_test, edge_test, tight_test, free_test, full_test, mates_pass, passes}
+use Rattle.matching.specs.Tests.{Verdict, YES, NO, verdict_of, verdict, FirstFailing, Says}
 use Rattle.matching.proofs.Duality.{certified_optimal}
 
 -- ---- at one number

@@ -23,7 +23,8 @@ use Rattle.laws.proofs.Lists.{each, each_at, each_map, each_range, sum_le, sum_s
 use Rattle.matching.specs.Graph.{Graph, edge_count, first_of, second_of, weight_of, groups_of, missing, WellFormed}
 use Rattle.matching.specs.Matching.{Matching, weight, Optimal}
 use Rattle.matching.proofs.Packing.{ends, packed, covered, Reached}
-use Rattle.matching.specs.Certificate.{Certificate, mate_of, dual_of, pairs, contains, inside, size, within, slack, group_duals, full_slack, offset, DUAL, EDGE, TIGHT, FREE, FULL, MATE, Passes}
+use Rattle.matching.specs.Certificate.{Certificate, mate_of, dual_of, pairs, contains, inside, size, within, slack, group_duals, full_slack}
+use Rattle.matching.specs.Certificate.{offset, DUAL, EDGE, TIGHT, FREE, FULL, MATE, Passes}
 use Rattle.matching.proofs.Pairs.{pairs_known, pairs_matching, mated_reached}
 
 -- ---- what is summed

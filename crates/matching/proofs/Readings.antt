@@ -38,7 +38,8 @@ pub record Met (parents : List ℕ) (k i B : ℕ) : Type 0 where
   pub whole_way : (j : ℕ) → j ≤ moves → parent_of parents (climb parents j i) ≢ missing
   pub comes_to : parent_of parents (climb parents moves i) ≡ B
 
-met_here_or_above : (parents : List ℕ) (k i B : ℕ) → Met parents (suc k) i B → (parent_of parents i ≢ missing) × ((parent_of parents i ≡ B) ⊎ Met parents k (parent_of parents i) B)
+met_here_or_above : (parents : List ℕ) (k i B : ℕ) → Met parents (suc k) i B
+    → (parent_of parents i ≢ missing) × ((parent_of parents i ≡ B) ⊎ Met parents k (parent_of parents i) B)
 unfolding climb
 met_here_or_above parents k i B h = (h.whole_way 0 zero-le, go h.moves h.few h.whole_way h.comes_to)
   where
@@ -47,7 +48,8 @@ met_here_or_above parents k i B h = (h.whole_way 0 zero-le, go h.moves h.few h.w
     go zero l w e = inl e
     go (suc m) l w e = inr (record { moves = m; few = omega arith; whole_way = λ j g. w (suc j) (omega arith); comes_to = e })
 
-met_from : (parents : List ℕ) (k i B : ℕ) → (parent_of parents i ≢ missing) × ((parent_of parents i ≡ B) ⊎ Met parents k (parent_of parents i) B) → Met parents (suc k) i B
+met_from : (parents : List ℕ) (k i B : ℕ) → (parent_of parents i ≢ missing) × ((parent_of parents i ≡ B) ⊎ Met parents k (parent_of parents i) B)
+    → Met parents (suc k) i B
 unfolding climb
 met_from parents k i B (h, inl e) = record { moves = 0; few = omega arith; whole_way = here; comes_to = e }
   where
@@ -72,7 +74,8 @@ contains_decided G parents B v = met_decided parents G.nodes v B
 
 -- ---- matched edges
 
-pub named_matched : (G : Graph) (mates : List ℕ) → MateHolds G mates → (v : ℕ) → v < G.nodes → mate_of mates v ≢ missing → T (matched G mates (mate_of mates v / 2))
+pub named_matched : (G : Graph) (mates : List ℕ) → MateHolds G mates → (v : ℕ) → v < G.nodes → mate_of mates v ≢ missing
+    → T (matched G mates (mate_of mates v / 2))
 named_matched G mates m v l h = ⊎_elim
     (λ z. absurd (h z))
     (λ b. ⊎_elim (λ p. (mated_even G mates v (mate_of mates v / 2) b p).0) (λ p. (mated_odd G mates v (mate_of mates v / 2) b p).0) (parity (mate_of mates v)))
@@ -90,7 +93,8 @@ unfolding least_from lesser
 least_from_lem a [] = inl refl
 least_from_lem a (b ∷ bs) = go (lt_z b a) (least_from_lem b bs) (least_from_lem a bs)
   where
-    go : (t : Bool) → (least_from b bs ≡ b) ⊎ Some (λ c. least_from b bs ≡ c) bs → (least_from a bs ≡ a) ⊎ Some (λ c. least_from a bs ≡ c) bs → (least_from (cond t b a) bs ≡ a) ⊎ Some (λ c. least_from (cond t b a) bs ≡ c) (b ∷ bs)
+    go : (t : Bool) → (least_from b bs ≡ b) ⊎ Some (λ c. least_from b bs ≡ c) bs → (least_from a bs ≡ a) ⊎ Some (λ c. least_from a bs ≡ c) bs
+        → (least_from (cond t b a) bs ≡ a) ⊎ Some (λ c. least_from (cond t b a) bs ≡ c) (b ∷ bs)
     go true f h = inr f
     go false f h = ⊎_elim (λ e. inl e) (λ r. inr (inr r)) h
 

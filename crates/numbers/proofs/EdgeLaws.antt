@@ -52,7 +52,8 @@ unfolding node_at first_of second_of
 node_next n x xs p = rw (half_next p, odd_next p)
 
 -- the node at end p, where there is such an end
-pub at_ends_of : (n : ℕ) (edges : List Edge) (p : ℕ) → and_then (must (ltb p (2 * length edges))) (λ _. ok (node_at (graph_of n edges) p)) ≡ at (ends_of edges) p
+pub at_ends_of : (n : ℕ) (edges : List Edge) (p : ℕ)
+    → and_then (must (ltb p (2 * length edges))) (λ _. ok (node_at (graph_of n edges) p)) ≡ at (ends_of edges) p
 unfolding at ends_of node_at first_of second_of
 at_ends_of n [] p = rw (le-ltb p 0 (omega arith))
 at_ends_of n (x ∷ xs) zero = rw (lt-ltb 0 (2 * suc (length xs)) (omega arith))

@@ -3,3 +3,4 @@ pub mod PoolLaws
 pub mod EdgeLaws
 pub mod NearLaws
 pub mod Stored
+pub mod Members

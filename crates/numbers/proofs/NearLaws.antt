@@ -8,7 +8,8 @@ use Rattle.laws.specs.Run.{ok, at}
 use Rattle.laws.proofs.Runs.{ok_inj, not_ok}
 use Rattle.numbers.specs.Near.{Near}
 
-entries_near : (k : ℕ) (l : List ℤ) (i : ℕ) (d : ℤ) → ((j : ℕ) → nat_abs (get_or l j (pos 0)) ≤ k) → nat_abs d ≤ k → (j : ℕ) → nat_abs (get_or (set l i d) j (pos 0)) ≤ k
+entries_near : (k : ℕ) (l : List ℤ) (i : ℕ) (d : ℤ) → ((j : ℕ) → nat_abs (get_or l j (pos 0)) ≤ k) → nat_abs d ≤ k
+    → (j : ℕ) → nat_abs (get_or (set l i d) j (pos 0)) ≤ k
 entries_near k [] i d h g j = h j
 entries_near k (x ∷ xs) zero d h g zero = g
 entries_near k (x ∷ xs) zero d h g (suc j) = h (suc j)

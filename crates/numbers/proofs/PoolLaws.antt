@@ -24,10 +24,6 @@ place_in n g k h l = omega (arith, mul-le-mul_right n h)
 pub place_row : (n g : ℕ) → g < n → g * n + n ≤ n * n
 place_row n g h = omega (arith, mul-le-mul_right n h)
 
--- a pool for n nodes has its place in an array of 4096
-pub pool_room : (n : ℕ) → n ≤ 64 → n * n ≤ 4096
-pool_room n h = omega (arith, mul-le-mul_right n h)
-
 module _ (n : ℕ) (counts pool : List ℕ) where
   -- the row of a node, of a group, of no number
   pub at_node : (b : ℕ) → b < n → at (pooled n counts pool) b ≡ ok []
@@ -53,7 +49,8 @@ module _ (n : ℕ) (counts pool : List ℕ) where
           go false f = o (j - n) (λ q. d (omega (arith, f tt)))
 
   -- a store to the count of group b
-  pub pooled_count : (b m : ℕ) → n ≤ b → b - n < length counts → pooled n (set counts (b - n) m) pool ≡ set (pooled n counts pool) b (take m (places n pool (b - n)))
+  pub pooled_count : (b m : ℕ) → n ≤ b → b - n < length counts
+      → pooled n (set counts (b - n) m) pool ≡ set (pooled n counts pool) b (take m (places n pool (b - n)))
   pooled_count b m h l = one_row (set counts (b - n) m) pool b (take m (places n pool (b - n))) h
       (ap (λ (c : ℕ). take c (places n pool (b - n))) (get_or-set_same counts (b - n) m 0 l))
       (λ g d. ap (λ (c : ℕ). take c (places n pool g)) (sym (get_or-set_other counts (b - n) g m 0 d)))
@@ -88,5 +85,6 @@ module _ {S : Type 0} (f : ℕ → S → Run S) (n : ℕ) (counts kids : List �
       let i : k < length (row_of n counts kids g) = rw row_length (omega arith) in
       for_each_next f (row_of n counts kids g) 0 k (ok s) r i (l ∙ ap (λ (x : ℕ). f x s) (q ∙ sym (row_of_at n counts kids g k 0 (omega arith)))) w
 
-  pub row_end : {whole : Run S} (m k : ℕ) (s : S) → m ≡ min (get_or counts g 0) n → m ≤ k → for_each f (drop k (row_of n counts kids g)) s ≡ whole → ok s ≡ whole
+  pub row_end : {whole : Run S} (m k : ℕ) (s : S) → m ≡ min (get_or counts g 0) n → m ≤ k
+      → for_each f (drop k (row_of n counts kids g)) s ≡ whole → ok s ≡ whole
   row_end m k s e h w = for_each_end f (row_of n counts kids g) k (ok s) (rw row_length (omega arith)) w

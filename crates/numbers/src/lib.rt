@@ -10,7 +10,7 @@ pub mod faults;
 // A mark and no None: it stands in the lists that are lent, and in the definition's.
 pub const MISSING: u16 = 65535;
 
-// Four types with a `number` each and no common trait: what they are for is that one can't stand where another is wanted.
+// Four types with a `number` each and no common trait: each type would still need its impl, and each user an import, for methods of one line.
 #[derive(Clone, Copy, Debug, PartialEq, Eq)]
 pub struct Node(pub u16);
 

@@ -70,8 +70,11 @@ module _ (n : ℕ) (xs ys : List ℕ) (zs : List ℤ) (flag : Bool) (budget : �
 as_long : {A : Type 0} {l : List A} (k : ℕ) (v : A) → l ≡ replicate k v → length l ≡ k
 as_long k v q = ap length q ∙ length-replicate k v
 
+pub still_cleared : {A : Type 0} {l : List A} (k : ℕ) (v : A) → l ≡ replicate k v → l ≡ replicate (length l) v
+still_cleared k v q = q ∙ ap (λ (i : ℕ). replicate i v) (sym (as_long k v q))
+
 module _ (M D P : ℕ) {m p : List ℕ} {d : List ℤ} (a : m ≡ replicate M missing) (b : d ≡ replicate D (pos 0)) (e : p ≡ replicate P missing) where
-  same_room : room (length m) (length d) (length p) ≡ room M D P
+  pub same_room : room (length m) (length d) (length p) ≡ room M D P
   same_room = rw (as_long M missing a, as_long D (pos 0) b, as_long P missing e)
 
   all_cleared : (x : Answer) → ◌≡◌ {A = Plan} (record { answer = x; steps = 0; mates = m; duals = d; parents = p }) (cleared (room M D P) x 0)
@@ -86,9 +89,9 @@ module _ (M D P : ℕ) {m p : List ℕ} {d : List ℤ} (a : m ≡ replicate M mi
           mates_fit = t.mates_fit;
           duals_fit = t.duals_fit;
           parents_fit = t.parents_fit;
-          no_mates = a ∙ ap (λ (k : ℕ). replicate k missing) (sym (as_long M missing a));
-          no_duals = b ∙ ap (λ (k : ℕ). replicate k (pos 0)) (sym (as_long D (pos 0) b));
-          no_parents = e ∙ ap (λ (k : ℕ). replicate k missing) (sym (as_long P missing e));
+          no_mates = still_cleared M missing a;
+          no_duals = still_cleared D (pos 0) b;
+          no_parents = still_cleared P missing e;
         }
 
     module _ (flag : Bool) (budget : ℕ) where

@@ -1,4 +1,4 @@
--- The laws of the plan call, and its two theorems.
+-- The laws of the plan call, and its theorems.
 pub mod EndLaws
 pub mod PartLaws
 pub mod SettleLaws
@@ -6,3 +6,4 @@ pub mod FillLaws
 pub mod CallLaws
 pub mod Optimal
 pub mod Single
+pub mod Passing

@@ -34,7 +34,7 @@ unfolding matched mate_of
 first_matched G mates w e h =
     rw (get_or-take G.nodes mates (first_of G e) missing (w e h).first_node, get_or-take G.nodes mates (second_of G e) missing (w e h).second_node)
 
-first_pairs : (G : Graph) (mates : List ℕ) → WellFormed G → pairs G (take G.nodes mates) ≡ pairs G mates
+pub first_pairs : (G : Graph) (mates : List ℕ) → WellFormed G → pairs G (take G.nodes mates) ≡ pairs G mates
 unfolding pairs
 first_pairs G mates w = keep_same (matched G (take G.nodes mates)) (matched G mates) 0 (edge_count G) (λ e l m. first_matched G mates w e (omega arith))
 
@@ -46,7 +46,7 @@ module _ (room : Room) (n : ℕ) (edges : List Edge) (flag : Bool) (budget : ℕ
   not_refused fine h = refl
   not_refused (refused r) h = let z : ◌≡◌ {A = ℕ} 0 1 = cc in absurd (nought z)
 
-  well_formed : (plan room n edges flag budget).answer ≡ DONE → WellFormed (graph_of n edges)
+  pub well_formed : (plan room n edges flag budget).answer ≡ DONE → WellFormed (graph_of n edges)
   unfolding plan
   well_formed h = accepted_well_formed n edges (accepted n edges room (not_refused (intake n edges room) h)).each_edge
 

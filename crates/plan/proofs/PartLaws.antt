@@ -28,22 +28,3 @@ near first weight w = record { near = λ i. go i (ltb i (length first)) (ltb→l
     go : (i : ℕ) (t : Bool) → (T t → i < length first) → (T (not t) → length first ≤ i) → nat_abs (get_or weight i (pos 0)) ≤ 1000000000
     go i true f g = w.near_zero i (f tt)
     go i false f g = rw (get_or-eq_default weight (pos 0) {n = i} (omega (arith, g tt, w.weights))) (omega arith)
-
-module _ (n : ℕ) (first second : List ℕ) (weight : List ℤ) (k : Known n first second) (w : Weighed first weight) where
-  pub graph_fits : (ends offsets far : List ℕ) → length ends ≡ 2 * length first → length offsets ≡ n + 1
-      → length far ≡ 2 * length first → Neighbours n ends offsets far
-      → GraphFits n ends weight offsets far
-  graph_fits ends offsets far e o f t =
-      record {
-        nodes = omega (arith, k.few_nodes);
-        pairs = omega (arith, e, w.weights);
-        few = omega (arith, k.few_edges, w.weights);
-        near = near first weight w;
-        starts = o;
-        table = omega (arith, f, k.few_edges);
-        neighbours = t;
-      }
-
--- where there is an edge there is a node
-pub some_node : (n : ℕ) (first second : List ℕ) → Known n first second → 0 < length first → 0 < n
-some_node n first second k h = omega (arith, k.first_node 0 h)

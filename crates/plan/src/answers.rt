@@ -15,18 +15,20 @@ pub enum Answer {
     Refused(Cause),
 }
 
-// Number, place and steps by a match: the cases hold values, so no cast gives them.
-impl Answer {
-    // Of a run that has stopped.
-    pub(crate) fn of_stopped(stopped: Stopped) -> Answer
-        ensures { result ≡ stopped_answer stopped }
-    {
+// Of a run that has stopped.
+impl From<Stopped> for Answer {
+    ghost from_gives = { λ stopped answer. answer ≡ stopped_answer stopped };
+
+    fn from(stopped: Stopped) -> Answer {
         match stopped {
             Stopped::Spent(steps) => Answer::Steps(steps),
             Stopped::Broken(steps) => Answer::Fault(steps),
         }
     }
+}
 
+// Number, place and steps by a match: the cases hold values, so no cast gives them.
+impl Answer {
     // Document 01's number of an answer.
     pub fn number(self) -> u16
         ensures { result ≡ number_of self }

@@ -2,10 +2,13 @@
 #![tactic(auto)]
 
 ghost use Rattle.std.specs.Prelude.{◌≡◌, ◌*◌, ◌+◌, ◌<◌, length};
-ghost use Rattle.certificate.specs.Lists.{room};
+ghost use Rattle.matching.specs.Tests.{YES};
+ghost use Rattle.steps.specs.Check.{JUDGED};
+ghost use Rattle.steps.specs.Plan.{DONE};
+ghost use Rattle.certificate.specs.Lists.{room, certificate_of, check_lists};
 ghost use Rattle.plan.specs.Lists.{Cleared};
 ghost use Rattle.plan.specs.Requests.{planned};
-ghost use Rattle.plan.specs.View.{plan_of, plan_lists};
+ghost use Rattle.plan.specs.View.{answer_of, plan_of, plan_lists};
 
 pub mod answers;
 mod ends;
@@ -52,11 +55,12 @@ fn plan_edges(
             found.fill(mates, duals, parents);
             Answer::Done(steps)
         }
-        Err(stopped) => Answer::of_stopped(stopped),
+        Err(stopped) => Answer::from(stopped),
     }
 }
 
-// The plan call. The three lent lists are cleared over their whole length before anything is read.
+// The plan call. The three lent lists are cleared over their whole length before anything is read. Where it is DONE, the check call
+// answers YES to what it leaves in them.
 pub fn plan(
     n: usize,
     first: &[u16],
@@ -68,7 +72,8 @@ pub fn plan(
     duals: &mut [i64],
     parents: &mut [u16],
 ) -> Answer
-    ensures { plan_of result mates.new duals.new parents.new ≡ plan_lists (room (length mates.old) (length duals.old) (length parents.old)) n first.now second.now weight.now max_cardinality budget }
+    ensures said { plan_of result mates.new duals.new parents.new ≡ plan_lists (room (length mates.old) (length duals.old) (length parents.old)) n first.now second.now weight.now max_cardinality budget }
+    ensures agreed { answer_of result ≡ DONE → check_lists n first.now second.now weight.now max_cardinality (certificate_of mates.new duals.new parents.new) ≡ JUDGED YES }
 {
     clear(mates);
     clear_duals(duals);

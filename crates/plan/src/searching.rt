@@ -115,8 +115,6 @@ pub(crate) fn settle(
     ensures said { (room : Room) → settled request.now.n room result found.new.certificate ≡ planned request.now room }
     ensures nodes { found.new.nodes ≡ found.old.nodes }
 {
-    match search_edges(request, numbers, allowed, duals, found) {
-        Ok(steps) => judged(request, found, steps),
-        Err(stopped) => Err(stopped),
-    }
+    let steps = search_edges(request, numbers, allowed, duals, found)?;
+    judged(request, found, steps)
 }

@@ -1,16 +1,57 @@
-// Plans each problem of standard input, the oracle's fixed list, and holds the answer against the record: steps, mates, duals, parents
-// and pairs, and every other entry of the lent lists. It writes each record that differs and how many records there were. The list's
-// form is in compare/README.md.
+// Plans each problem of standard input in both forms, on three lists and on edge entries, and holds what each call leaves against the
+// record: the answer, the pairs, and every entry of the lent lists. The input is the oracle's fixed list, and after it a list of records
+// that are wrong in one place each, so that it is seen that each difference is told. It writes each record that differs, with the number
+// of what does (1 number, 2 place, 3 steps, 4 pairs, 5 mates, 6 duals, 7 parents; 8 to 14 the same on edge entries), and of each list how
+// many records it has and how many differ. The list's form is in compare/README.md; compare/answers/make makes the wrong ones.
 #![tactic(auto)]
 
 ghost use Rattle.std.specs.Prelude.{◌≤◌};
 
+use entries::EdgeEntry;
+use plan::answers::Answer;
 use replays::{bytes, long_number, number, tell};
 use std::io;
 use std::io::{Read, Write};
 
-// Document 01's mark. The program knows the call alone, not the library's numbers.
+// Document 01's mark. The program knows the calls alone, not the library's numbers.
 const MISSING: u16 = 65535;
+
+// Any edge: what stands in a list of edges before it is read.
+const EDGE: EdgeEntry = EdgeEntry {
+    first: 0,
+    second: 0,
+    weight: 0,
+};
+
+// A record's edges in both forms.
+#[derive(Drop)]
+struct Problem<'a> {
+    n: usize,
+    flag: bool,
+    first: &'a [u16],
+    second: &'a [u16],
+    weight: &'a [i64],
+    edges: &'a [EdgeEntry],
+}
+
+// What a call leaves. The lent lists are longer than any record needs.
+#[derive(Drop)]
+struct Left {
+    answer: Answer,
+    mates: [u16; 67],
+    duals: [i64; 131],
+    parents: [u16; 131],
+}
+
+// What a record says of that: the answer is DONE. An entry that the record doesn't have must be missing, a dual 0.
+#[derive(Drop)]
+struct Record {
+    steps: u32,
+    pairs: [Option<(u16, u16)>; 255],
+    mates: [u16; 67],
+    duals: [i64; 131],
+    parents: [u16; 131],
+}
 
 // The generic reader is `bytes`; std has its conversions width by width.
 fn byte<R: Read>(from: &mut R) -> u8 {
@@ -39,95 +80,167 @@ fn pair_from(first: &[u16], second: &[u16], v: u16, p: u16) -> Option<(u16, u16)
     (v < w).then_some((v, w))
 }
 
-// The pairs that the mates make, ascending by lower node, are those of the record. All pairs of the record are read.
-fn same_pairs<R: Read>(from: &mut R, first: &[u16], second: &[u16], mates: &[u16]) -> bool {
-    let mut pairs = (0..)
-        .zip(mates)
-        .filter_map(|(v, p)| pair_from(first, second, v, *p));
-    let mut same = true;
-    for _ in 0..byte(from) {
-        let v = u16::from(byte(from));
-        let w = u16::from(byte(from));
-        same &= pairs.next() == Some((v, w));
+impl Problem<'_> {
+    // The lent lists hold 7 before a call.
+    fn on_lists(&self) -> Left {
+        let mut mates = [7; 67];
+        let mut duals = [7; 131];
+        let mut parents = [7; 131];
+        let answer = plan::plan(
+            self.n,
+            self.first,
+            self.second,
+            self.weight,
+            self.flag,
+            u32::MAX,
+            &mut mates,
+            &mut duals,
+            &mut parents,
+        );
+        Left {
+            answer,
+            mates,
+            duals,
+            parents,
+        }
     }
-    same && pairs.next().is_none()
+
+    fn on_entries(&self) -> Left {
+        let mut mates = [7; 67];
+        let mut duals = [7; 131];
+        let mut parents = [7; 131];
+        let answer = entries::plan(
+            self.n,
+            self.edges,
+            self.flag,
+            u32::MAX,
+            &mut mates,
+            &mut duals,
+            &mut parents,
+        );
+        Left {
+            answer,
+            mates,
+            duals,
+            parents,
+        }
+    }
 }
 
-// Plans the edges of a record of n nodes and holds the answer and the lent lists against what comes next. An entry that the record
-// doesn't have must be missing, a dual 0.
-fn compare<R: Read>(
-    from: &mut R,
-    n: usize,
-    flag: bool,
-    first: &[u16],
-    second: &[u16],
-    weight: &[i64],
-) -> [bool; 7]
-    requires { n ≤ 255 }
-{
-    let mut mates = [7; 67];
-    let mut duals = [7; 131];
-    let mut parents = [7; 131];
-    let a = plan::plan(
-        n,
-        first,
-        second,
-        weight,
-        flag,
-        u32::MAX,
-        &mut mates,
-        &mut duals,
-        &mut parents,
-    );
-    let steps = long_number(from);
-    let pairs = same_pairs(from, first, second, &mates);
-    let mut next_mates = [MISSING; 67];
-    let mut next_duals = [0; 131];
-    let mut next_parents = [MISSING; 131];
-    next_mates[..n.min(67)].fill_with(|| number(from));
-    next_duals[..(2 * n).min(131)].fill_with(|| dual_of(from));
-    next_parents[..(2 * n).min(131)].fill_with(|| number(from));
-    [
-        a.number() == 0,
-        a.place() == 0,
-        a.steps() == steps,
-        pairs,
-        mates == next_mates,
-        duals == next_duals,
-        parents == next_parents,
-    ]
+impl Record {
+    // The record of n nodes that comes next.
+    fn read<R: Read>(from: &mut R, n: usize) -> Record
+        requires { n ≤ 255 }
+    {
+        let steps = long_number(from);
+        let mut pairs = [None; 255];
+        let count = usize::from(byte(from));
+        for pair in &mut pairs[..count] {
+            let v = u16::from(byte(from));
+            let w = u16::from(byte(from));
+            *pair = Some((v, w));
+        }
+        let mut mates = [MISSING; 67];
+        let mut duals = [0; 131];
+        let mut parents = [MISSING; 131];
+        mates[..n.min(67)].fill_with(|| number(from));
+        duals[..(2 * n).min(131)].fill_with(|| dual_of(from));
+        parents[..(2 * n).min(131)].fill_with(|| number(from));
+        Record {
+            steps,
+            pairs,
+            mates,
+            duals,
+            parents,
+        }
+    }
+
+    // The pairs that the mates make, ascending by lower node, are those of the record.
+    fn same_pairs(&self, problem: &Problem<'_>, mates: &[u16]) -> bool {
+        let mut pairs = (0..)
+            .zip(mates)
+            .filter_map(|(v, p)| pair_from(problem.first, problem.second, v, *p));
+        let mut same = true;
+        for pair in &self.pairs {
+            same &= pairs.next() == *pair;
+        }
+        same
+    }
+
+    fn same(&self, problem: &Problem<'_>, left: &Left) -> [bool; 7] {
+        [
+            left.answer.number() == 0,
+            left.answer.place() == 0,
+            left.answer.steps() == self.steps,
+            self.same_pairs(problem, &left.mates),
+            left.mates == self.mates,
+            left.duals == self.duals,
+            left.parents == self.parents,
+        ]
+    }
 }
 
-// One record of n nodes and m edges.
-fn replay<R: Read>(from: &mut R, n: usize, flag: bool, m: usize) -> [bool; 7]
-    requires nodes { n ≤ 255 }
-    requires edges { m ≤ 2048 }
-{
+// One record.
+fn replay<R: Read>(from: &mut R) -> [bool; 14] {
+    let n = usize::from(byte(from));
+    let flag = byte(from) == 1;
+    let m = usize::from(number(from)).min(2048);
     let first = &mut [0; 2048][..m];
     let second = &mut [0; 2048][..m];
     let weight = &mut [0; 2048][..m];
-    let edges = first.iter_mut().zip(&mut *second).zip(&mut *weight);
-    for ((a, b), w) in edges {
-        *a = u16::from(byte(from));
-        *b = u16::from(byte(from));
-        *w = weight_of(from);
+    let edges = &mut [EDGE; 2048][..m];
+    edges.fill_with(|| EdgeEntry {
+        first: u16::from(byte(from)),
+        second: u16::from(byte(from)),
+        weight: weight_of(from),
+    });
+    for (((a, b), w), edge) in first
+        .iter_mut()
+        .zip(&mut *second)
+        .zip(&mut *weight)
+        .zip(&*edges)
+    {
+        *a = edge.first;
+        *b = edge.second;
+        *w = edge.weight;
     }
-    compare(from, n, flag, first, second, weight)
+    let record = Record::read(from, n);
+    let problem = Problem {
+        n,
+        flag,
+        first,
+        second,
+        weight,
+        edges,
+    };
+    let mut same = [true; 14];
+    same[..7].copy_from_slice(&record.same(&problem, &problem.on_lists()));
+    same[7..].copy_from_slice(&record.same(&problem, &problem.on_entries()));
+    same
 }
 
-// The list begins with its mark, which is not looked at, and its count of records. A write that fails is passed over.
+// Replays a list, whose first record has this place: how many records it has, and how many of them differ. It begins with its mark,
+// which is not looked at, and its count. A write that fails is passed over.
+fn replay_list<R: Read, W: Write>(from: &mut R, out: &mut W, place: u32) -> (u32, u32) {
+    long_number(from);
+    let count = long_number(from);
+    let mut others = 0u32;
+    for k in 0..count {
+        let same = replay(from);
+        let _ = tell(out, place.saturating_add(k), &same);
+        others = others.saturating_add(u32::from(same.contains(&false)));
+    }
+    (count, others)
+}
+
 fn main(rt: HostRuntime) {
     let mut from = rt.reader();
     let mut out = io::writer(&rt);
-    long_number(&mut from);
-    let count = long_number(&mut from);
-    for place in 0..count {
-        let n = usize::from(byte(&mut from));
-        let flag = byte(&mut from) == 1;
-        let m = usize::from(number(&mut from));
-        if m <= 2048 {
-            let _ = tell(&mut out, place, &replay(&mut from, n, flag, m));
-        }
-    }
-    let _ = writeln!(out, "{count}");
+    let (count, others) = replay_list(&mut from, &mut out, 0);
+    let (wrong, told) = replay_list(&mut from, &mut out, count);
+    let _ = writeln!(
+        out,
+        "{count} records on three lists and on edge entries, {others} differ"
+    );
+    let _ = writeln!(out, "{wrong} records made wrong, {told} told");
 }

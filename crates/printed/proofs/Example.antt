@@ -19,7 +19,8 @@ text =
     0x44 ∷ 0x4F ∷ 0x4E ∷ 0x45 ∷ 0x20 ∷ 0x31 ∷ 0x20 ∷ 0x31 ∷ 0x31 ∷ 0x20 ∷ 0x38 ∷ 0x0A ∷ 0x31 ∷ 0x20 ∷ 0x32 ∷ 0x20 ∷ 0x31 ∷ 0x31 ∷ 0x0A ∷ []
 
 unfoldable pub prints : Plan → List ℕ
-unfolding range total node_at first_of second_of weight_of mate_of digits decimal pair_at pairs_at printed_other pair_line pair_lines printed_done printed_answer
+unfolding range total node_at first_of second_of weight_of mate_of digits decimal pair_at pairs_at printed_other pair_line pair_lines
+    printed_done printed_answer
 prints p = printed (graph_of 4 path) p
 
 plan8_prints : prints plan8 ≡ text

@@ -1,5 +1,6 @@
 -- Lines of fields put one after another.
-use Rattle.std.proofs.Common.{◌≡◌, refl, ap, ◌∙◌, List, [], ◌∷◌, ◌++◌, append_assoc, append-nil, ℕ, suc, ◌+◌, ◌%◌, ◌≤◌, ◌<◌, ◌^◌, length, ℤ, pos, negsuc, nat_abs, arith}
+use Rattle.std.proofs.Common.{◌≡◌, refl, ap, ◌∙◌, List, [], ◌∷◌, ◌++◌, append_assoc, append-nil}
+use Rattle.std.proofs.Common.{ℕ, suc, ◌+◌, ◌%◌, ◌≤◌, ◌<◌, ◌^◌, length, ℤ, pos, negsuc, nat_abs, arith}
 use Rattle.std.specs.Fmt.{decimal as decimal_std}
 use Rattle.std.specs.Fmt.{signed_decimal as signed_std}
 use Rattle.std.proofs.lemmas.Fmt.{decimal_by_steps}

@@ -67,7 +67,8 @@ module _ (G : Graph) (mates : List ℕ) where
   pub count_more : (v : ℕ) → length (pairs_at G mates (range 0 (v + 1))) ≡ length (pairs_at G mates (range 0 v)) + length (pair_at G mates v)
   count_more v = ap length (pairs_more v) ∙ length-append (pairs_at G mates (range 0 v)) (pair_at G mates v)
 
-  pub weight_more : (v : ℕ) → weights_total (pairs_at G mates (range 0 (v + 1))) ≡ weights_total (pairs_at G mates (range 0 v)) +ℤ weights_total (pair_at G mates v)
+  pub weight_more : (v : ℕ)
+      → weights_total (pairs_at G mates (range 0 (v + 1))) ≡ weights_total (pairs_at G mates (range 0 v)) +ℤ weights_total (pair_at G mates v)
   weight_more v = ap weights_total (pairs_more v) ∙ total_both (pairs_at G mates (range 0 v)) (pair_at G mates v)
 
   module _ (v : ℕ) where
@@ -116,7 +117,8 @@ module _ (n : ℕ) (first second : List ℕ) (weight : List ℤ) (k : length sec
       pair_turned l = rw (mate_of_lem, ne_eqb (get_or mates v 0) missing m, node_of (get_or mates v 0), le-ltb v (end_node first second (get_or mates v 0)) l)
 
       pub pair_with : v < end_node first second (get_or mates v 0)
-          → record { lower = v; higher = end_node first second (get_or mates v 0); weight = get_or weight (get_or mates v 0 / 2) (pos 0) } ∷ [] ≡ pair_at (lent n first second weight) mates v
+          → record { lower = v; higher = end_node first second (get_or mates v 0); weight = get_or weight (get_or mates v 0 / 2) (pos 0) } ∷ []
+          ≡ pair_at (lent n first second weight) mates v
       unfolding pair_at
       pair_with l =
           rw (

@@ -13,7 +13,7 @@ use crate::text::Text;
 use certificate::answers::Cause;
 use records::complaint::Complaint;
 
-// The name of a refusal: a fixed byte string.
+// The name of a refusal. By a match: document 01 has names as fixed byte strings, and a derived Debug would follow the code's spelling.
 fn name(c: Complaint) -> &'static [u8]
     ensures { result.now ≡ complaint_name (complaint_of c) }
 {

@@ -62,7 +62,7 @@ impl<'a> Plan<'a> {
         }
     }
 
-    // What all pairs weigh together.
+    // What all pairs weigh together. Not by `sum`: std has no bound for signed sums, where each addition here fits.
     #[tactic(auto, using(crate::proofs::PairLaws::weights))]
     pub(crate) fn weigh(self) -> i64
         ensures sum { result ≡ weights_total (pairs_in self.entry) }

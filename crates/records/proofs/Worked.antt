@@ -4,13 +4,17 @@ use mathlib.Core.Bool.{false}
 use mathlib.Core.List.{List, [], ◌∷◌, ◌++◌, map}
 use Prim.Native.Nat.{ℕ}
 use lib.IntN.{pos}
-use lib.ListN.{replicate}
+use lib.ListN.{length, replicate}
 use Rattle.matching.specs.Graph.{edge}
-use Rattle.records.specs.Site.{Reading, Next, stopped, unread, with_nodes, untimed, Outcome, read, refused, NODES, EDGES, BUFFER, KIND, CUT, ORDER, TIME, LONG, kind_of, number_at, signed, budget_of, misplaced, cut_short, take_nodes, take_flag, take_budget, is_full, take_edge, time_of, take_time, take_join, take_go, judge_kind, judge, ended, read_from, read_records, read_site}
+use Rattle.records.specs.Site.{Reading, Next, stopped, unread, with_nodes, untimed, Outcome, read, refused, NODES, EDGES, BUFFER, KIND, CUT}
+use Rattle.records.specs.Site.{ORDER, TIME, LONG, kind_of, number_at, signed, budget_of, misplaced, cut_short, take_nodes, take_flag}
+use Rattle.records.specs.Site.{take_budget, is_full, take_edge, time_of, take_time, take_join, take_go, judge_kind, judge, ended}
+use Rattle.records.specs.Site.{read_from, reached, beginning, read_records, read_site}
 
 -- what a file reads as, where the lent lists have room
 unfoldable pub reads : List ℕ → Outcome
-unfolding kind_of number_at signed budget_of misplaced cut_short take_nodes take_flag take_budget is_full take_edge time_of take_time take_join take_go judge_kind judge ended read_from read_records read_site
+unfolding kind_of number_at signed budget_of misplaced cut_short take_nodes take_flag take_budget is_full take_edge time_of take_time
+    take_join take_go judge_kind judge ended read_from read_records read_site
 reads file = read_site 2048 file
 
 -- one record after another
@@ -32,9 +36,11 @@ go = 0x47 ∷ []
 -- document 01's example
 abbrev pub example : List ℕ
 example =
-    0x4E ∷ 0x04 ∷ 0x00 ∷ 0x45 ∷ 0x00 ∷ 0x00 ∷ 0x01 ∷ 0x00 ∷ 0x05 ∷ 0x00 ∷ 0x00 ∷ 0x00 ∷ 0x45 ∷ 0x01 ∷ 0x00 ∷ 0x02 ∷ 0x00 ∷ 0x0B ∷ 0x00 ∷ 0x00 ∷ 0x00 ∷ 0x45 ∷ 0x02 ∷ 0x00 ∷ 0x03 ∷ 0x00 ∷ 0x05 ∷ 0x00 ∷ 0x00 ∷ 0x00 ∷ 0x47 ∷ []
+    0x4E ∷ 0x04 ∷ 0x00 ∷ 0x45 ∷ 0x00 ∷ 0x00 ∷ 0x01 ∷ 0x00 ∷ 0x05 ∷ 0x00 ∷ 0x00 ∷ 0x00 ∷
+    0x45 ∷ 0x01 ∷ 0x00 ∷ 0x02 ∷ 0x00 ∷ 0x0B ∷ 0x00 ∷ 0x00 ∷ 0x00 ∷ 0x45 ∷ 0x02 ∷ 0x00 ∷ 0x03 ∷ 0x00 ∷ 0x05 ∷ 0x00 ∷ 0x00 ∷ 0x00 ∷ 0x47 ∷ []
 
-pub example_reads : reads example ≡ read (record { nodes = 4; flag = false; budget = 160; edges = edge 0 1 (pos 5) ∷ edge 1 2 (pos 11) ∷ edge 2 3 (pos 5) ∷ [] })
+pub example_reads : reads example
+    ≡ read (record { nodes = 4; flag = false; budget = 160; edges = edge 0 1 (pos 5) ∷ edge 1 2 (pos 11) ∷ edge 2 3 (pos 5) ∷ [] })
 unfolding reads
 example_reads = refl
 
@@ -87,6 +93,29 @@ rows =
 pub rows_read : map (λ (r : Row). reads r.file) rows ≡ map (λ (r : Row). r.outcome) rows
 unfolding reads
 rows_read = refl
+
+-- ---- where reading stops
+
+unfoldable pub reaches : List ℕ → Reading
+unfolding kind_of number_at signed misplaced cut_short take_nodes take_flag take_budget is_full take_edge time_of take_time take_join take_go judge_kind judge
+    reached
+reaches file = reached (length file) file beginning
+
+-- an unknown byte after a J: what was read before it stands, edge and times
+pub refused_reaches : reaches (n2 ++ t0 ++ t1 ++ j01 ++ (0x58 ∷ []))
+    ≡ record { place = 22; head = with_nodes 2 unread; times = 7 ∷ 9 ∷ []; edges = edge 0 1 (pos 7) ∷ [] }
+unfolding reaches
+refused_reaches = refl
+
+-- a second T for node 0: its first time stands
+pub again_reaches : reaches (n2 ++ t0 ++ t0) ≡ record { place = 10; head = with_nodes 2 unread; times = 7 ∷ untimed ∷ []; edges = [] }
+unfolding reaches
+again_reaches = refl
+
+-- no G: all that was read stands
+pub ended_reaches : reaches (n2 ++ t1) ≡ record { place = 10; head = with_nodes 2 unread; times = untimed ∷ 9 ∷ []; edges = [] }
+unfolding reaches
+ended_reaches = refl
 
 -- ---- limits
 

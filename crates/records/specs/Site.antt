@@ -287,6 +287,17 @@ read_from (suc records) file s =
     let next = after_record s.place (λ t. read_from records file t) (judge file s) in
     if ltb s.place (length file) then next else ended file s
 
+-- what has been read where the records end, or at a record that is refused; its place is that record's
+abbrev pub up_to : Reading → (Reading → Reading) → Next → Reading
+up_to s rest (onward t) = rest t
+up_to s rest (stopped c) = s
+
+unfoldable pub reached : (records : ℕ) → List ℕ → Reading → Reading
+reached zero file s = s
+reached (suc records) file s =
+    let next = up_to s (λ t. reached records file t) (judge file s) in
+    if ltb s.place (length file) then next else s
+
 unfoldable pub read_records : List ℕ → Outcome
 read_records file = read_from (length file) file beginning
 

@@ -1,5 +1,5 @@
 -- The code's states and answers as the definition's.
-use Rattle.std.specs.Prelude.{◌≡◌, Option, Some, None, Result, Ok, Err, List, ℕ, ℤ, take}
+use Rattle.std.specs.Prelude.{◌≡◌, Option, Some, None, Result, Ok, Err, List, ℕ, ℤ, take, drop}
 use Rattle.matching.specs.Graph.{Edge, edges_from}
 use Rattle.records.specs.Site as site
 use Rattle.records.specs.declared.kind.Kind.{Kind}
@@ -81,3 +81,19 @@ abbrev pub Same : Draft → Draft → Type 0
 Same d e =
     (e.first.ghost_name ≡ d.first.ghost_name) × (e.second.ghost_name ≡ d.second.ghost_name) × (e.weight.ghost_name ≡ d.weight.ghost_name)
     × (e.times.ghost_name ≡ d.times.ghost_name)
+
+-- past its edges and its nodes' times, a draft's lists hold what they held
+pub record Past (d e : Draft) : Type 0 where
+  pub firsts : drop e.read.count e.first.now ≡ drop e.read.count d.first.now
+  pub seconds : drop e.read.count e.second.now ≡ drop e.read.count d.second.now
+  pub weights : drop e.read.count e.weight.now ≡ drop e.read.count d.weight.now
+  pub times : drop e.read.nodes e.times.now ≡ drop e.read.nodes d.times.now
+
+-- a record that is refused changes nothing
+abbrev pub Leaves : {A : Type 0} → Result A Complaint → Draft → Draft → Type 0
+Leaves (Ok u) d e = Past d e
+Leaves (Err c) d e = e ≡ d
+
+-- the draft is what this reading says
+abbrev pub Stands : site.Reading → Draft → Type 0
+Stands s d = view_of s.place d ≡ s

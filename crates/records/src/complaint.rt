@@ -1,18 +1,18 @@
-// Why a site file is refused.
+// Why a site file is refused, with document 01's numbers.
 ghost use Rattle.std.specs.Prelude.{◌≡◌};
 ghost use Rattle.records.specs.Site.{complaint_number};
 ghost use Rattle.records.specs.View.{complaint_of};
 
 #[derive(Clone, Copy, Debug, PartialEq, Eq)]
 pub enum Complaint {
-    Nodes,
-    Edges,
-    Buffer,
-    Kind,
-    Cut,
-    Order,
-    Time,
-    Long,
+    Nodes = 1,
+    Edges = 2,
+    Buffer = 6,
+    Kind = 21,
+    Cut = 22,
+    Order = 23,
+    Time = 24,
+    Long = 25,
 }
 
 impl Complaint {
@@ -20,15 +20,6 @@ impl Complaint {
     pub fn number(self) -> u8
         ensures { result ≡ complaint_number (complaint_of self) }
     {
-        match self {
-            Complaint::Nodes => 1,
-            Complaint::Edges => 2,
-            Complaint::Buffer => 6,
-            Complaint::Kind => 21,
-            Complaint::Cut => 22,
-            Complaint::Order => 23,
-            Complaint::Time => 24,
-            Complaint::Long => 25,
-        }
+        self as u8
     }
 }

@@ -3,7 +3,7 @@ ghost use Rattle.std.specs.Prelude.{◌≡◌, ◌≢◌, ℕ, [], ◌∷◌, �
 ghost use Rattle.matching.specs.Graph.{edge};
 ghost use Rattle.steps.specs.Refusals.{max_nodes, max_edges};
 ghost use Rattle.records.specs.Site.{misplaced as misplaced_of, budget_of as budget_said, time_of as time_said, unread, is_full, with_nodes, take_in, untimed};
-ghost use Rattle.records.specs.View.{head_of, kind_view, times_now, edges_now, view_of, timed, Same};
+ghost use Rattle.records.specs.View.{head_of, kind_view, times_now, edges_now, view_of, timed, Past, Same};
 
 use crate::draft::{Draft, Reading};
 use crate::kind::Kind;
@@ -13,6 +13,7 @@ pub(crate) const MAX_NODES: u16 = 64;
 
 pub(crate) const MAX_EDGES: u16 = 2048;
 
+// A node that has no throw time yet. A mark and no Option: the definition's list of times holds it.
 pub(crate) const UNTIMED: u32 = 4294967295;
 
 impl Reading {
@@ -85,9 +86,10 @@ impl<'a> Draft<'a> {
         ensures head { head_of self.new.read ≡ with_nodes n (head_of self.old.read) }
         ensures times { times_now self.new ≡ replicate n untimed }
         ensures edges { edges_now self.new ≡ edges_now self.old }
+        ensures past { Past self.old self.new }
         ensures same { Same self.old self.new }
     {
-        self.times.fill(UNTIMED);
+        self.times[..usize::from(n)].fill(UNTIMED);
         self.read.opened = true;
         self.read.nodes = n;
     }
@@ -99,6 +101,7 @@ impl<'a> Draft<'a> {
         ensures head { head_of self.new.read ≡ head_of self.old.read }
         ensures times { times_now self.new ≡ set (times_now self.old) v t }
         ensures edges { edges_now self.new ≡ edges_now self.old }
+        ensures past { Past self.old self.new }
         ensures same { Same self.old self.new }
     {
         self.times[usize::from(v)] = t;
@@ -120,6 +123,7 @@ impl<'a> Draft<'a> {
         ensures head { head_of self.new.read ≡ head_of self.old.read }
         ensures times { times_now self.new ≡ times_now self.old }
         ensures edges { edges_now self.new ≡ edges_now self.old ++ (edge a b w ∷ []) }
+        ensures past { Past self.old self.new }
         ensures same { Same self.old self.new }
     {
         let k = usize::from(self.read.count);

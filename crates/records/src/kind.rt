@@ -15,7 +15,7 @@ pub enum Kind {
 }
 
 impl Kind {
-    // The kind that a byte names.
+    // The kind that a byte names. No TryFrom: a byte that names none is no failure here, and who takes the record says what is wrong with it.
     #[tactic(auto, unfolding(crate::specs::Site::kind_of))]
     pub fn of(byte: u8) -> Option<Kind>
         ensures { named_of result ≡ kind_of byte }
@@ -32,7 +32,7 @@ impl Kind {
         }
     }
 
-    // How many bytes its body has.
+    // How many bytes its body has. Two kinds have bodies of one length, so these can't be the cases' own numbers.
     pub(crate) fn body(self) -> usize
         ensures { result ≡ body_of (kind_view self) }
     {

@@ -1,9 +1,17 @@
 // A reader: the lent file and its place. It reads numbers past its place, and takes one record after another into a draft.
-ghost use Rattle.std.specs.Prelude.{◌≡◌, ◌+◌, leb, length};
+ghost use Rattle.std.specs.Prelude.{◌≡◌, ◌+◌, ◌<◌, leb, length, IfSome};
 ghost use Rattle.records.specs.Site.{byte_at, word_at, long_at, signed as signed_of, kind_of};
 ghost use Rattle.records.specs.View.{named_of};
 
 use crate::kind::Kind;
+
+// Four bytes as a signed number.
+#[tactic(auto, using(crate::proofs::Numbers::signed_read))]
+pub fn signed(x: u32) -> i64
+    ensures { result ≡ signed_of x }
+{
+    i64::from(x.cast_signed())
+}
 
 #[derive(Clone, Copy, Debug, PartialEq, Eq)]
 pub struct Reader<'a> {
@@ -53,16 +61,17 @@ impl<'a> Reader<'a> {
     }
 
     // The four bytes k past its place, as a signed number.
-    #[tactic(auto, using(crate::proofs::Numbers::signed_read))]
     pub fn signed(&self, k: u8) -> i64
         ensures { result ≡ signed_of (long_at self.now.file.now (self.now.place + k)) }
     {
-        i64::from(self.long(k).cast_signed())
+        signed(self.long(k))
     }
 
-    // The kind of the record at its place.
+    // The kind of the record at its place. Past the file's end there is none.
+    #[tactic(auto, using(crate::proofs::Taken::named_here))]
     pub fn kind(&self) -> Option<Kind>
-        ensures { named_of result ≡ kind_of (byte_at self.now.file.now self.now.place) }
+        ensures said { named_of result ≡ kind_of (byte_at self.now.file.now self.now.place) }
+        ensures here { IfSome result (λ k. self.now.place < length self.now.file.now) }
     {
         Kind::of(self.byte(0))
     }

@@ -2,7 +2,7 @@
 ghost use Rattle.std.specs.Prelude.{◌≡◌, ◌+◌, ◌<◌, length, OnOk, OnErr};
 ghost use Rattle.records.specs.Site.{body as body_of};
 ghost use Rattle.records.specs.Site.{take_nodes, take_flag, take_budget, take_edge, take_time, take_join, take_go, take_body, judge};
-ghost use Rattle.records.specs.View.{kind_view, view_of, Takes, Same};
+ghost use Rattle.records.specs.View.{kind_view, view_of, Takes, Leaves, Same};
 
 use crate::complaint::Complaint;
 use crate::draft::Draft;
@@ -17,6 +17,7 @@ impl<'a> Reader<'a> {
     #[tactic(auto, unfolding(crate::specs::Site::take_nodes))]
     fn take_nodes(&self, d: &mut Draft) -> Result<(), Complaint>
         ensures said { Takes (take_nodes self.now.file.now (view_of self.now.place d.old)) (self.now.place + 3) d.new result }
+        ensures rest { Leaves result d.old d.new }
         ensures same { Same d.old d.new }
     {
         let n = self.word(1);
@@ -31,6 +32,7 @@ impl<'a> Reader<'a> {
     #[tactic(auto, unfolding(crate::specs::Site::take_flag))]
     fn take_flag(&self, d: &mut Draft) -> Result<(), Complaint>
         ensures said { Takes (take_flag self.now.file.now (view_of self.now.place d.old)) (self.now.place + 2) d.new result }
+        ensures rest { Leaves result d.old d.new }
         ensures same { Same d.old d.new }
     {
         let v = self.byte(1);
@@ -46,6 +48,7 @@ impl<'a> Reader<'a> {
     #[tactic(auto, unfolding(crate::specs::Site::take_budget))]
     fn take_budget(&self, d: &mut Draft) -> Result<(), Complaint>
         ensures said { Takes (take_budget self.now.file.now (view_of self.now.place d.old)) (self.now.place + 5) d.new result }
+        ensures rest { Leaves result d.old d.new }
         ensures same { Same d.old d.new }
     {
         d.read.budgeted = true;
@@ -57,6 +60,7 @@ impl<'a> Reader<'a> {
     #[tactic(auto, unfolding(crate::specs::Site::take_edge))]
     fn take_edge(&self, d: &mut Draft) -> Result<(), Complaint>
         ensures said { Takes (take_edge self.now.file.now (view_of self.now.place d.old)) (self.now.place + 9) d.new result }
+        ensures rest { Leaves result d.old d.new }
         ensures same { Same d.old d.new }
     {
         if d.is_full() {
@@ -70,6 +74,7 @@ impl<'a> Reader<'a> {
     #[tactic(auto, unfolding(crate::specs::Site::take_time))]
     fn take_time(&self, d: &mut Draft) -> Result<(), Complaint>
         ensures said { Takes (take_time self.now.file.now (view_of self.now.place d.old)) (self.now.place + 7) d.new result }
+        ensures rest { Leaves result d.old d.new }
         ensures same { Same d.old d.new }
     {
         let v = self.word(1);
@@ -91,6 +96,7 @@ impl<'a> Reader<'a> {
     #[tactic(auto, unfolding(crate::specs::Site::take_join))]
     fn take_join(&self, d: &mut Draft) -> Result<(), Complaint>
         ensures said { Takes (take_join self.now.file.now (view_of self.now.place d.old)) (self.now.place + 5) d.new result }
+        ensures rest { Leaves result d.old d.new }
         ensures same { Same d.old d.new }
     {
         if d.is_full() {
@@ -108,6 +114,7 @@ impl<'a> Reader<'a> {
     #[tactic(auto, unfolding(crate::specs::Site::take_go))]
     fn take_go(&self, d: &mut Draft) -> Result<(), Complaint>
         ensures said { Takes (take_go (view_of self.now.place d.old)) (self.now.place + 1) d.new result }
+        ensures rest { Leaves result d.old d.new }
         ensures same { Same d.old d.new }
     {
         d.read.gone = true;
@@ -117,6 +124,7 @@ impl<'a> Reader<'a> {
     // The body of a record that stands where it may, and is whole.
     fn take_body(&self, k: Kind, d: &mut Draft) -> Result<(), Complaint>
         ensures said { Takes (take_body (kind_view k) self.now.file.now (view_of self.now.place d.old)) (self.now.place + (1 + body_of (kind_view k))) d.new result }
+        ensures rest { Leaves result d.old d.new }
         ensures same { Same d.old d.new }
     {
         match k {
@@ -130,14 +138,14 @@ impl<'a> Reader<'a> {
         }
     }
 
-    // The record at its place: KIND, ORDER, CUT, the rest. The place moves on where it is taken, and stays where it is refused.
+    // The record at its place: KIND, ORDER, CUT, the rest. Where it is taken the place moves on; where it is refused nothing changes.
     #[tactic(auto, unfolding(crate::specs::Site::judge, crate::specs::Site::judge_kind, crate::specs::Site::cut_short))]
     pub fn take(&mut self, d: &mut Draft) -> Result<(), Complaint>
-        requires here { self.old.place < length self.old.file.now }
         ensures said { Takes (judge self.old.file.now (view_of self.old.place d.old)) self.new.place d.new result }
         ensures file { self.new.file ≡ self.old.file }
         ensures on { OnOk result (self.old.place < self.new.place) }
         ensures stays { OnErr result (self.new.place ≡ self.old.place) }
+        ensures rest { Leaves result d.old d.new }
         ensures same { Same d.old d.new }
     {
         let k = self.kind().ok_or(Complaint::Kind)?;

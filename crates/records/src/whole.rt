@@ -1,8 +1,8 @@
 // A whole site file, read into three lent lists.
 ghost use Rattle.std.specs.Prelude.{◌≡◌, min, ◌++◌, ◌-◌, ◌≤◌, length, take, replicate};
 ghost use Rattle.steps.specs.Refusals.{max_edges};
-ghost use Rattle.records.specs.Site.{read_from, read_records, read_site};
-ghost use Rattle.records.specs.View.{view_of, Same};
+ghost use Rattle.records.specs.Site.{read_from, reached, read_records, read_site};
+ghost use Rattle.records.specs.View.{view_of, Stands, Past, Same};
 ghost use Rattle.records.specs.WholeView.{site_view, edge_count, ReadAs};
 
 use crate::complaint::Complaint;
@@ -14,10 +14,12 @@ use crate::site::{Head, Refused};
 const MAX_BYTES: usize = 65536;
 
 impl<'a> Reader<'a> {
-    // The records from its place on, one after another.
+    // The records from its place on, one after another. Where one is refused the draft is as the last one that was taken left it.
     #[tactic(auto, using(crate::proofs::Judged::left))]
     pub fn read_on(mut self, d: &mut Draft) -> Result<Head, Refused>
         ensures said { site_view result d.new.first.now d.new.second.now d.new.weight.now ≡ read_from (length self.entry.file.now) self.entry.file.now (view_of self.entry.place d.old) }
+        ensures stands { Stands (reached (length self.entry.file.now) self.entry.file.now (view_of self.entry.place d.old)) d.new }
+        ensures past { Past d.old d.new }
         ensures same { Same d.old d.new }
     {
         // No `for`: each record says where the next one begins.

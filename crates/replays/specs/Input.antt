@@ -1,7 +1,7 @@
 -- What a reader gives, and what the replay programs read it as.
-use Rattle.std.specs.Prelude.{◌≡◌, ◌≤◌, ℕ, ◌-◌, ◌%◌, min, List, Option, length, take, drop, replicate, if◌then◌else◌, nat_lt, ℤ, pos, neg_ℤ}
+use Rattle.std.specs.Prelude.{◌≡◌, ◌≤◌, ◌<◌, ℕ, ◌-◌, ◌%◌, min, List, Option, None, Some, length, take, drop, replicate, if◌then◌else◌, nat_lt, ℤ, pos, neg_ℤ}
 use Rattle.std.specs.Io.KnownBytes.{Consumes}
-use Rattle.std.specs.Int.{from_le_bytes, w16, w64}
+use Rattle.std.specs.Int.{from_le_bytes, w16, w32, w64}
 
 -- known bytes lose a front of them, which these bytes begin with; all others are 0
 abbrev pub Gives : Option (List ℕ) → Option (List ℕ) → List ℕ → Type 0
@@ -10,6 +10,11 @@ Gives old new bytes = (k : ℕ) × (k ≤ length bytes) × Consumes old new (tak
 -- x is what so many bytes that a reader gave say
 abbrev pub Reads : {A : Type 0} → Option (List ℕ) → Option (List ℕ) → ℕ → (List ℕ → A) → A → Type 0
 Reads old new size said x = (bytes : List ℕ) × (length bytes ≡ size) × Gives old new bytes × (x ≡ said bytes)
+
+-- four bytes are a size, the low one first; where fewer come there is none
+abbrev pub Sized : Option (List ℕ) → Option (List ℕ) → Option ℕ → Type 0
+Sized old new None = (bytes : List ℕ) × (length bytes < 4) × Consumes old new bytes
+Sized old new (Some size) = (bytes : List ℕ) × (length bytes ≡ 4) × Consumes old new bytes × (size ≡ from_le_bytes w32 bytes)
 
 -- the distance from zero, and in the highest bit whether it lies below
 abbrev pub amount_of : List ℕ → ℤ

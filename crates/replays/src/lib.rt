@@ -2,11 +2,11 @@
 // the input, and all bytes past its end are 0.
 #![tactic(auto)]
 
-ghost use Rattle.replays.specs.Input.{Gives, Reads, amount_of, length_of};
+ghost use Rattle.replays.specs.Input.{Gives, Reads, Sized, amount_of, length_of};
 ghost use Rattle.replays.specs.Told.{told};
 ghost use Rattle.std.specs.Int.{from_le_bytes, w16, w32};
 ghost use Rattle.std.specs.Io.KnownBytes.{Appends, Consumes};
-ghost use Rattle.std.specs.Prelude.{◌≡◌, ◌+◌, ◌≤◌, OnOk, length, take, drop};
+ghost use Rattle.std.specs.Prelude.{◌≡◌, ◌+◌, ◌-◌, ◌≤◌, OnOk, length, take, drop, replicate};
 
 use std::io;
 use std::io::{Read, Write};
@@ -14,11 +14,13 @@ use std::io::{Read, Write};
 // The most entries of a list.
 pub const ENTRIES: usize = 2112;
 
-// Reads until the buffer is full, the input ends or a read fails: how many bytes came.
+// Reads until the buffer is full, the input ends or a read fails: how many bytes came. What a reader may have left behind its last
+// byte is cleared.
 #[tactic(auto, using(crate::proofs::Reading::takes_on))]
 pub fn read_full<R: Read>(from: &mut R, buffer: &mut [u8]) -> usize
     ensures count { result ≤ length buffer.new }
     ensures bytes { Consumes (R.remaining from.old) (R.remaining from.new) (take result buffer.new) }
+    ensures rest { drop result buffer.new ≡ replicate (length buffer.new - result) 0 }
 {
     let mut done = 0;
     while done < buffer.len() {
@@ -28,6 +30,7 @@ pub fn read_full<R: Read>(from: &mut R, buffer: &mut [u8]) -> usize
         }
         done += more;
     }
+    buffer[done..].fill(0);
     done
 }
 
@@ -41,14 +44,13 @@ fn read_on<R: Read>(from: &mut R, buffer: &mut [u8], done: usize) -> usize
     from.read(&mut buffer[done..]).unwrap_or(0)
 }
 
-// The bytes that come next. What a reader may have left behind its last byte is cleared.
+// The bytes that come next.
 pub fn bytes<R: Read, const N: usize>(from: &mut R) -> [u8; N]
     ensures { Gives (R.remaining from.old) (R.remaining from.new) result }
 {
     let mut all = [0; N];
     let list = &mut all[..];
-    let done = read_full(from, list);
-    list[done..].fill(0);
+    read_full(from, list);
     all
 }
 
@@ -81,6 +83,18 @@ pub fn length<R: Read>(from: &mut R) -> usize
     ensures value { Reads (R.remaining from.old) (R.remaining from.new) 2 length_of result }
 {
     usize::from(number(from)).min(ENTRIES)
+}
+
+// How long a file or a list of bytes is that stands next: four bytes, the low one first; none where the input ends before them.
+pub fn file_size<R: Read>(from: &mut R) -> Option<usize>
+    ensures { Sized (R.remaining from.old) (R.remaining from.new) result }
+{
+    let mut head = [0; 4];
+    let list = &mut head[..];
+    if read_full(from, list) < 4 {
+        return None;
+    }
+    Some(u32::from_le_bytes(head) as usize)
 }
 
 // Writes what differs in the record at a place: a line for each, with its number, from 1.

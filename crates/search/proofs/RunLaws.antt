@@ -1,9 +1,12 @@
 -- A run, one step at a time.
-use Rattle.std.proofs.Common.{◌≡◌, ◌≢◌, ◌+◌, ℕ, zero, suc, Bool, true, false, refl, add-one}
+use Rattle.std.proofs.Common.{◌≡◌, ◌≢◌, ◌+◌, ℕ, zero, suc, Bool, true, false, refl, ap, add-one, Result, Ok, Err, is_ok, MatchResult}
 use Rattle.laws.specs.Run.{Run, ok, fault}
 use Rattle.matching.specs.Graph.{Graph, is_group}
 use Rattle.steps.specs.State.{State}
 use Rattle.steps.specs.Steps.{step}
+use Rattle.numbers.specs.declared.faults.Fault.{Fault}
+use Rattle.search.specs.declared.running.Stopped.{Stopped}
+use Rattle.search.specs.Searched.{Searched}
 use Rattle.steps.specs.Plan.{Ending, finished, spent, broken, is_ended, run_by}
 
 module _ (G : Graph) (flag : Bool) where
@@ -26,5 +29,11 @@ module _ (G : Graph) (flag : Bool) where
   unfolding run_by
   run_breaks zero count s e n t = absurd (n refl)
   run_breaks (suc left) count s e n t = rw (e, t)
+
+-- a step whose fault is told as another error
+pub stepped : (P : Fault → Type 0) (r : Result Searched Fault) (q : Result Searched Stopped) (s : Searched) → MatchResult r (λ x. q ≡ Ok x) P
+    → is_ok q ≡ is_ok r → q ≡ Ok s → r ≡ Ok s
+stepped P (Ok x) q s m v e = let same : x ≡ s = cc in ap Ok same
+stepped P (Err f) q s m v e = cc
 
 pub ruleset run_turns = (run_ends, run_spends, run_steps, run_breaks)

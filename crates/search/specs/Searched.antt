@@ -1,9 +1,10 @@
 -- What the search by value stands for, and what its steps and its run answer. Definitions only.
-use Rattle.std.specs.Prelude.{if◌then◌else◌, ◌≡◌, false, List, ℕ, ◌*◌, ◌<◌, eqb, length, Result, Ok, Err}
+use Rattle.std.specs.Prelude.{if◌then◌else◌, ◌≡◌, Bool, false, List, ℕ, ◌*◌, ◌<◌, ◌≤◌, eqb, length, Result, Ok, Err}
 use Rattle.laws.specs.Run.{Run, ok, fault}
-use Rattle.matching.specs.Graph.{Graph}
+use Rattle.matching.specs.Graph.{Graph, missing, is_group}
 use Rattle.steps.specs.State.{State, Progress, Phase, opening, searching, closing, ended}
 use Rattle.steps.specs.Plan.{Ending, finished, spent, broken, is_ended}
+use Rattle.steps.specs.Standing.{Standing, After}
 use Rattle.numbers.specs.declared.faults.Fault.{Fault}
 use Rattle.state.specs.Parts.{Parts, state_of, sized, size_of}
 use Rattle.grouping.specs.Rooms.{RoomFits}
@@ -42,6 +43,15 @@ pub record Ready (G : Graph) (s : Searched) : Type 0 where
   pub size : sized s.lists ≡ size_of G
   pub scratch : s.scratch ≡ G.nodes
   pub going : is_ended s.at.phase ≡ false → s.at.stage < G.nodes
+
+-- n is from 1 to 32,767
+abbrev pub Numbered : Graph → Type 0
+Numbered G = (0 < G.nodes) × (2 * G.nodes ≤ missing)
+
+-- the search is what so many completed steps leave of the fresh start, and what holds after each completed step holds of it
+pub record Stands (G : Graph) (flag : Bool) (steps : ℕ) (s : Searched) : Type 0 where
+  pub after : After is_group G flag steps (searched s)
+  pub standing : Standing G (searched s)
 
 -- the phase after a stage is closed, by how many are closed then
 abbrev pub phase_after : (stage n : ℕ) → Phase

@@ -13,7 +13,7 @@ use crate::scratch::Scratch;
 use edges::graph::Graph;
 use numbers::Group;
 use numbers::faults::Fault;
-use stages::delta::{Delta, choose};
+use stages::delta::{By, Delta, choose};
 use stages::follow::{follow_three, follow_two};
 use stages::shift::move_duals;
 use state::lists::Lists;
@@ -27,27 +27,14 @@ fn follow(g: &Graph, lists: &mut Lists, scratch: &mut Scratch, d: Delta) -> Resu
     ensures size { sized lists.new ≡ sized lists.old }
     ensures room { scratch.new ≡ scratch.old }
 {
-    match d {
-        Delta::One(k) => {
-            move_duals(g, lists, k)?;
-            Ok(true)
-        }
-        Delta::Two(k, e) => {
-            move_duals(g, lists, k)?;
-            follow_two(g, lists, e)?;
-            Ok(false)
-        }
-        Delta::Three(k, e) => {
-            move_duals(g, lists, k)?;
-            follow_three(g, lists, e)?;
-            Ok(false)
-        }
-        Delta::Four(k, b) => {
-            move_duals(g, lists, k)?;
-            scratch.expand(g, lists, false, b)?;
-            Ok(false)
-        }
+    move_duals(g, lists, d.amount)?;
+    match d.by {
+        By::One => return Ok(true),
+        By::Two(e) => follow_two(g, lists, e)?,
+        By::Three(e) => follow_three(g, lists, e)?,
+        By::Four(b) => scratch.expand(g, lists, false, b)?,
     }
+    Ok(false)
 }
 
 // By the least amount.
@@ -64,8 +51,7 @@ pub fn adjust(
     ensures room { scratch.new ≡ scratch.old }
 {
     let d = choose(g, lists, flag)?;
-    let ended = follow(g, lists, scratch, d)?;
-    Ok(ended)
+    follow(g, lists, scratch, d)
 }
 
 // An outermost label-1 group with dual 0 is expanded.

@@ -4,8 +4,9 @@ ghost use Rattle.steps.specs.Add.{add_group as add_group_of};
 ghost use Rattle.steps.specs.Expand.{expand_top};
 ghost use Rattle.steps.specs.Scan.{scan as scan_of};
 ghost use Rattle.steps.specs.State.{Progress};
-ghost use Rattle.numbers.specs.Answers.{AnswersNode, Agrees};
+ghost use Rattle.numbers.specs.Answers.{Agrees};
 ghost use Rattle.state.specs.Parts.{state_of, sized, size_of};
+ghost use Rattle.state.specs.Walks.{AnswersBase};
 
 use edges::graph::Graph;
 use expand::free::expand;
@@ -54,10 +55,16 @@ impl<'a> Scratch<'a> {
         }
     }
 
-    // The base where the paths from v and from w meet, or missing.
-    pub(crate) fn scan(&mut self, g: &Graph, lists: &Lists, v: Node, w: Node) -> Result<Node, Fault>
+    // The base where the paths from v and from w meet, if they do.
+    pub(crate) fn scan(
+        &mut self,
+        g: &Graph,
+        lists: &Lists,
+        v: Node,
+        w: Node,
+    ) -> Result<Option<Node>, Fault>
         requires { self.old ≡ lists.now.labels.size.nodes }
-        ensures said { (at : Progress) → AnswersNode (scan_of g.now v.0 w.0 (state_of lists.now at)) result }
+        ensures said { (at : Progress) → AnswersBase (scan_of g.now v.0 w.0 (state_of lists.now at)) result }
         ensures kept { self.new ≡ self.old }
     {
         let base = lists.scan(g, self.marks, v, w)?;
@@ -77,8 +84,7 @@ impl<'a> Scratch<'a> {
         ensures size { sized lists.new ≡ sized lists.old }
         ensures kept { self.new ≡ self.old }
     {
-        add_group(g, lists, &mut self.room, base, e)?;
-        Ok(())
+        add_group(g, lists, &mut self.room, base, e)
     }
 
     // Group b is taken apart, at the end of a stage where `last`.
@@ -94,7 +100,6 @@ impl<'a> Scratch<'a> {
         ensures size { sized lists.new ≡ sized lists.old }
         ensures kept { self.new ≡ self.old }
     {
-        expand(g, lists, &mut self.nodes, last, b)?;
-        Ok(())
+        expand(g, lists, &mut self.nodes, last, b)
     }
 }

@@ -1,5 +1,5 @@
 // The state of a search by value: its lists and its room by reference, and what is next.
-ghost use Rattle.std.specs.Prelude.{◌≡◌, ◌*◌, ◌<◌, length};
+ghost use Rattle.std.specs.Prelude.{◌≡◌, ℕ, ◌+◌, ◌*◌, ◌<◌, length};
 ghost use Rattle.std.specs.Result.{IfOk};
 ghost use Rattle.matching.specs.Graph.{is_group};
 ghost use Rattle.matching.specs.Certificate.{Certificate};
@@ -7,8 +7,9 @@ ghost use Rattle.steps.specs.State.{opening, searching, closing};
 ghost use Rattle.steps.specs.Steps.{open_stage as open_stage_of, take_node as take_node_of, close_stage as close_stage_of, step as step_of};
 ghost use Rattle.steps.specs.Adjust.{adjust_duals as adjust_duals_of};
 ghost use Rattle.steps.specs.Plan.{is_ended as is_ended_of, certificate_of};
+ghost use Rattle.steps.specs.Standing.{After};
 ghost use Rattle.state.specs.Parts.{state_of, sized, size_of};
-ghost use Rattle.search.specs.Searched.{phase_of, progress, searched, AnswersSearch, Ready, phase_after};
+ghost use Rattle.search.specs.Searched.{phase_of, progress, searched, AnswersSearch, Ready, Numbered, Stands, phase_after};
 
 use crate::adjusting::{adjust, close_groups};
 use crate::scratch::Scratch;
@@ -86,7 +87,8 @@ impl<'a, 'b> Search<'a, 'b> {
         Ok(self)
     }
 
-    // The last node of the queue is taken, and its neighbours are visited.
+    // The last node of the queue is taken, and its neighbours are visited. Where lists and room are both lent the search is taken apart: of a
+    // struct that stays whole the borrow checker lends one field at a time, as in `open`.
     fn take(self, g: &Graph) -> Result<Search<'a, 'b>, Fault>
         requires ready { Ready g.now self }
         requires phase { self.at.phase ≡ searching }
@@ -154,12 +156,13 @@ impl<'a, 'b> Search<'a, 'b> {
         })
     }
 
-    // The next step, by phase.
+    // The next step, by phase. After k completed steps from the fresh start it is step k + 1, and what it leaves stands.
     #[tactic(auto, unfolding(steps::specs::Steps::step, steps::specs::Steps::step_at, steps::specs::Steps::take_or_adjust))]
     pub fn step(self, g: &Graph, flag: bool) -> Result<Search<'a, 'b>, Fault>
         requires { Ready g.now self }
         ensures said { AnswersSearch (step_of is_group g.now flag (searched self.entry)) result }
         ensures ready { IfOk result (Ready g.now) }
+        ensures stands { (k : ℕ) → Numbered g.now → After is_group g.now flag k (searched self.entry) → IfOk result (Stands g.now flag (k + 1)) }
     {
         match self.phase {
             Phase::Opening => self.open(g),

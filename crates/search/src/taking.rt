@@ -24,8 +24,7 @@ fn visit_from(g: &Graph, lists: &mut Lists, scratch: &mut Scratch, v: Node) -> R
     let t = lists.top(v)?;
     let l = lists.label(t.0)?;
     must(l == 1)?;
-    let augmented = visit_all(g, lists, scratch, v, g.far_ends(v))?;
-    Ok(augmented)
+    visit_all(g, lists, scratch, v, g.far_ends(v))
 }
 
 // The last node of the queue.

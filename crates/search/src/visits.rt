@@ -33,8 +33,7 @@ fn join(
     ensures size { sized lists.new ≡ sized lists.old }
     ensures room { scratch.new ≡ scratch.old }
 {
-    let base = scratch.scan(g, lists, v, w)?;
-    if !base.is_missing() {
+    if let Some(base) = scratch.scan(g, lists, v, w)? {
         scratch.add_group(g, lists, base, e)?;
         return Ok(false);
     }
@@ -62,8 +61,7 @@ fn use_edge(
         return Ok(false);
     }
     if met.group_label == 1 {
-        let augmented = join(g, lists, scratch, v, met.node, p.edge())?;
-        return Ok(augmented);
+        return join(g, lists, scratch, v, met.node, p.edge());
     }
     if met.label == 0 {
         reach(lists, met.node, p)?;
@@ -109,8 +107,7 @@ fn pass_edge(
         label,
     };
     if now {
-        let augmented = use_edge(g, lists, scratch, v, met, p)?;
-        return Ok(augmented);
+        return use_edge(g, lists, scratch, v, met, p);
     }
     keep_edge(g, lists, v, met, e, k)?;
     Ok(false)
@@ -136,8 +133,7 @@ fn visit(
     if from == to {
         return Ok(false);
     }
-    let augmented = pass_edge(g, lists, scratch, v, w, p)?;
-    Ok(augmented)
+    pass_edge(g, lists, scratch, v, w, p)
 }
 
 // The neighbours at the ends of a row in order, until they end or the matching is augmented. One that a look settles isn't visited.
@@ -154,17 +150,12 @@ pub(crate) fn visit_all(
     ensures size { sized lists.new ≡ sized lists.old }
     ensures room { scratch.new ≡ scratch.old }
 {
-    // A place and no iterator: a look answers from where the visits go on.
-    let mut i = 0;
-    while i < row.len() {
-        i = look_on(g, lists, v, row, i);
-        if i < row.len() {
-            let augmented = visit(g, lists, scratch, v, End(row[i]))?;
-            if augmented {
-                return Ok(true);
-            }
-            i += 1;
+    let mut left = row;
+    while let Some((&p, rest)) = look_on(g, lists, v, left).split_first() {
+        if visit(g, lists, scratch, v, End(p))? {
+            return Ok(true);
         }
+        left = rest;
     }
     Ok(false)
 }

@@ -3,22 +3,13 @@
 // decides the pairs, and nothing of this code.
 #![tactic(auto)]
 
-use replays::read_full;
+use replays::{file_size, read_full};
 use sites::plan_site;
 use std::io;
 use std::io::{Read, Write};
 
 // At most so many files are answered: this program's own limit.
 const FILES: u32 = 100000;
-
-// The next file's length: four bytes, low byte first; none where the input has ended.
-fn next_size<R: Read>(from: &mut R) -> Option<usize> {
-    let mut head = [0u8; 4];
-    if read_full(from, &mut head) < 4 {
-        return None;
-    }
-    Some(u32::from_le_bytes(head) as usize)
-}
 
 // Writes the answer of a file. An answer of 32 pairs has at most 608 bytes. A write that fails is passed over. The lists are fixed:
 // with a heap the program could fail.
@@ -30,7 +21,7 @@ fn answer<W: Write>(out: &mut W, file: &[u8]) {
 
 // Reads and answers one file; false where the input has ended, which is no failure: an Option of nothing says no more.
 fn one<R: Read, W: Write>(from: &mut R, out: &mut W, buffer: &mut [u8]) -> bool {
-    let Some(size) = next_size(from) else {
+    let Some(size) = file_size(from) else {
         return false;
     };
     if buffer.len() < size {

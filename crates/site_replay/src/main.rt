@@ -8,7 +8,7 @@ ghost use Rattle.std.specs.Prelude.{◌<◌};
 use records::reader::Reader;
 use records::site::{Head, Refused};
 use records::whole::read_site;
-use replays::read_full;
+use replays::{file_size, read_full};
 use std::io;
 use std::io::{Read, Write};
 
@@ -48,12 +48,7 @@ impl Room {
     }
 
     fn edges_are(&self) -> bool {
-        for k in 0..ENTRIES {
-            if !self.edge_is(k) {
-                return false;
-            }
-        }
-        true
+        (0..ENTRIES).all(|k| self.edge_is(k))
     }
 
     // Reads the file of so many bytes.
@@ -85,15 +80,6 @@ fn tell<W: Write>(out: &mut W, site: Result<Head, Refused>, same: bool) {
     let _ = out.write_all(if same { b"=\n" } else { b"!\n" });
 }
 
-// A length: four bytes, low byte first; none where the input has ended.
-fn length<R: Read>(from: &mut R) -> Option<usize> {
-    let mut head = [0u8; 4];
-    if read_full(from, &mut head) < 4 {
-        return None;
-    }
-    Some(u32::from_le_bytes(head) as usize)
-}
-
 // The first bytes of a buffer, from the input, where there is room for them.
 fn fetch<R: Read>(from: &mut R, buffer: &mut [u8], size: usize) {
     if size <= buffer.len() {
@@ -104,7 +90,7 @@ fn fetch<R: Read>(from: &mut R, buffer: &mut [u8], size: usize) {
 // Reads one file and what its edges must be; false where the input has ended, which is no failure: an Option of nothing says no
 // more. The lists are not clear beforehand.
 fn one<R: Read, W: Write>(from: &mut R, out: &mut W, room: &mut Room) -> bool {
-    let Some(size) = length(from) else {
+    let Some(size) = file_size(from) else {
         return false;
     };
     if room.file.len() < size {
@@ -112,7 +98,7 @@ fn one<R: Read, W: Write>(from: &mut R, out: &mut W, room: &mut Room) -> bool {
     }
     fetch(from, &mut room.file, size);
     room.expected.fill(0);
-    if let Some(known) = length(from) {
+    if let Some(known) = file_size(from) {
         fetch(from, &mut room.expected, known);
     }
     let site = room.read(size);

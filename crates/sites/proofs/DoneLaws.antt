@@ -12,23 +12,18 @@ use lib.ListN.{length, get_or}
 use Rattle.matching.specs.Graph.{Edge, Graph, graph_of, edges_from}
 use Rattle.numbers.specs.Near.{Near}
 use Rattle.steps.specs.Refusals.{Refusal, Intake, fine, refused, Room, intake}
-use Rattle.steps.specs.Plan.{Plan, Answer, DONE, REFUSED, STEPS, FAULT, cleared, plan, plan_after}
+use Rattle.steps.specs.Plan.{Plan, Answer, DONE, REFUSED, cleared, plan, plan_after}
 use Rattle.certificate.specs.Lists.{Weighed, lent, room, same_length, unequal, intake_lists}
 use Rattle.certificate.proofs.JudgeLaws.{weighed}
 use Rattle.printed.specs.Answer.{printed}
 use Rattle.printed.proofs.PairLaws.{far}
 use Rattle.plan.specs.View.{plan_of, plan_lists}
-use Rattle.sites.specs.View.{Weighs, plan_text}
+use Rattle.sites.specs.Answered.{is_done}
+use Rattle.sites.specs.View.{Weighs, plan_text, plan_done}
 use Rattle.plan.specs.declared.answers.Answer as answer
 use Rattle.plan.specs.declared.answers.Answer.TheVariants as answers
 
 -- ---- done is not refused
-
-abbrev is_done : Answer → Bool
-is_done DONE = true
-is_done STEPS = false
-is_done FAULT = false
-is_done (REFUSED r) = false
 
 never : {B : Type 0} (r : Refusal) → DONE ≡ REFUSED r → B
 never r e = absurd (subst (λ (a : Answer). T (is_done a)) e tt)
@@ -46,7 +41,8 @@ module _ (room : Room) (n : ℕ) (first second : List ℕ) (weight : List ℤ) (
       edges : List Edge
       edges = edges_from first second weight
 
-      go : (t : Bool) → DONE ≡ (if t then plan_after (graph_of n edges) flag budget room (intake n edges room) else cleared room (REFUSED (unequal n (length first))) 0).answer
+      go : (t : Bool) → DONE ≡ (if t then plan_after (graph_of n edges) flag budget room (intake n edges room)
+          else cleared room (REFUSED (unequal n (length first))) 0).answer
           → fine ≡ (if t then intake n edges room else refused (unequal n (length first)))
       go true h = done_fine (graph_of n edges) flag budget room (intake n edges room) h
       go false h = never (unequal n (length first)) h
@@ -73,3 +69,10 @@ pub lists_text : (n : ℕ) (first second : List ℕ) (weight : List ℤ) (flag :
 unfolding plan_text
 lists_text n first second weight flag budget p e f g h =
     ap (λ (q : Plan). printed (lent n first second weight) q) e ∙ rw (f, g, h)
+
+-- and whether it is done
+pub lists_done : (n : ℕ) (first second : List ℕ) (weight : List ℤ) (flag : Bool) (budget : ℕ) (p : Plan) {x y z : ℕ}
+    → p ≡ plan_lists (room x y z) n first second weight flag budget → x ≡ n → y ≡ 2 * n → z ≡ 2 * n
+    → is_done p.answer ≡ plan_done n first second weight flag budget
+unfolding plan_done
+lists_done n first second weight flag budget p e f g h = ap (λ (q : Plan). is_done q.answer) e ∙ rw (f, g, h)

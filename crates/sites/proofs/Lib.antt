@@ -3,3 +3,4 @@ pub mod Limits
 pub mod ReadLaws
 pub mod DoneLaws
 pub mod Example
+pub mod Single

@@ -34,7 +34,8 @@ few_nodes file s = go (ltb max_nodes (site.word_at file (s.place + 1))) (ltb-fal
     n : ℕ
     n = site.word_at file (s.place + 1)
 
-    go : (t : Bool) → (t ≡ false → n ≤ max_nodes) → FewNext (if t then site.stopped site.NODES else site.onward (record { place = s.place + 3; head = site.with_nodes n s.head; times = replicate n site.untimed; edges = s.edges }))
+    go : (t : Bool) → (t ≡ false → n ≤ max_nodes) → FewNext (if t then site.stopped site.NODES
+        else site.onward (record { place = s.place + 3; head = site.with_nodes n s.head; times = replicate n site.untimed; edges = s.edges }))
     go true f = tt
     go false f = f refl
 
@@ -95,7 +96,8 @@ few_ended : (file : List ℕ) (s : site.Reading) → Few s → FewNodes (site.en
 unfolding site.ended
 few_ended file s h = either FewNodes s.head.gone h tt
 
-few_after : (place : ℕ) (rest : site.Reading → site.Outcome) (x : site.Next) → FewNext x → ((s : site.Reading) → Few s → FewNodes (rest s)) → FewNodes (site.after_record place rest x)
+few_after : (place : ℕ) (rest : site.Reading → site.Outcome) (x : site.Next) → FewNext x
+    → ((s : site.Reading) → Few s → FewNodes (rest s)) → FewNodes (site.after_record place rest x)
 few_after place rest (site.onward s) h f = f s h
 few_after place rest (site.stopped c) h f = tt
 

@@ -22,9 +22,9 @@ use Rattle.printed.specs.Answer.{printed_complaint}
 use Rattle.printed.specs.Page.{Page, page, with_text}
 use Rattle.printed.specs.View.{Put}
 use Rattle.printed.proofs.Texts.{text_puts}
-use Rattle.sites.specs.Answered.{plan_of_site, answered_as, answered}
+use Rattle.sites.specs.Answered.{plan_of_site, answered_as, answered, done_as, done}
 use Rattle.plan.specs.View.{plan_lists}
-use Rattle.sites.specs.View.{plan_text}
+use Rattle.sites.specs.View.{plan_text, plan_done}
 
 -- ---- edges apart and together
 
@@ -60,6 +60,10 @@ unequal_never E = (
 read_text : (s : site.Site) → plan_text s.nodes (firsts s.edges) (seconds s.edges) (weights s.edges) s.flag s.budget ≡ answered_as (site.read s)
 unfolding plan_text plan_lists same_length answered_as plan_of_site
 read_text s = rw ((unequal_never s.edges).0, (unequal_never s.edges).1, together s.edges)
+
+read_done : (s : site.Site) → plan_done s.nodes (firsts s.edges) (seconds s.edges) (weights s.edges) s.flag s.budget ≡ done_as (site.read s)
+unfolding plan_done plan_lists same_length done_as plan_of_site
+read_done s = rw ((unequal_never s.edges).0, (unequal_never s.edges).1, together s.edges)
 
 -- ---- what was told
 
@@ -116,7 +120,8 @@ numbered site.ORDER = refl
 numbered site.TIME = refl
 numbered site.LONG = refl
 
-refused_text : (c : site.Complaint) (place : ℕ) (o : site.Outcome) → site.rejected (site.complaint_number c) place ≡ site.told o → printed_complaint c place ≡ answered_as o
+refused_text : (c : site.Complaint) (place : ℕ) (o : site.Outcome) → site.rejected (site.complaint_number c) place ≡ site.told o
+    → printed_complaint c place ≡ answered_as o
 unfolding answered_as
 refused_text c place (site.read s) e = different (sym e) tt (λ t. t)
 refused_text c place (site.refused d p) e =
@@ -124,17 +129,44 @@ refused_text c place (site.refused d p) e =
     let r : place ≡ p = ap place_in e in
     rw (q, r)
 
+refused_done : (number place : ℕ) (o : site.Outcome) → site.rejected number place ≡ site.told o → false ≡ done_as o
+unfolding done_as
+refused_done number place (site.read s) e = different (sym e) tt (λ t. t)
+refused_done number place (site.refused d p) e = refl
+
 module _ (n : ℕ) (flag : Bool) (budget m : ℕ) where
   -- the front of a list that holds one part of each edge
-  part : {A : Type 0} (f : Edge → A) (v : A) (size : ℕ) {l : List A} (s : site.Site) → site.accepted n flag budget m ≡ site.told (site.read s) → l ≡ padded v (map f s.edges) size → take m l ≡ map f s.edges
+  part : {A : Type 0} (f : Edge → A) (v : A) (size : ℕ) {l : List A} (s : site.Site)
+      → site.accepted n flag budget m ≡ site.told (site.read s) → l ≡ padded v (map f s.edges) size → take m l ≡ map f s.edges
   part f v size s e h = rw (ap edges_in e ∙ sym (length_map f s.edges), h) (front v (map f s.edges) size)
 
   accepted_text : (o : site.Outcome) → site.accepted n flag budget m ≡ site.told o → {F S : List ℕ} {W : List ℤ} (x y z : ℕ)
       → F ≡ padded 0 (firsts (site.edges_of o)) x → S ≡ padded 0 (seconds (site.edges_of o)) y → W ≡ padded (pos 0) (weights (site.edges_of o)) z
       → plan_text n (take m F) (take m S) (take m W) flag budget ≡ answered_as o
   accepted_text (site.read s) e x y z f g h =
-      rw (ap nodes_in e, ap flag_in e, ap budget_in e, part (λ (x : Edge). x.first) 0 x s e f, part (λ (x : Edge). x.second) 0 y s e g, part (λ (x : Edge). x.weight) (pos 0) z s e h) (read_text s)
+      rw (
+        ap nodes_in e,
+        ap flag_in e,
+        ap budget_in e,
+        part (λ (x : Edge). x.first) 0 x s e f,
+        part (λ (x : Edge). x.second) 0 y s e g,
+        part (λ (x : Edge). x.weight) (pos 0) z s e h,
+      ) (read_text s)
   accepted_text (site.refused c place) e x y z f g h = different e tt (λ t. t)
+
+  accepted_done : (o : site.Outcome) → site.accepted n flag budget m ≡ site.told o → {F S : List ℕ} {W : List ℤ} (x y z : ℕ)
+      → F ≡ padded 0 (firsts (site.edges_of o)) x → S ≡ padded 0 (seconds (site.edges_of o)) y → W ≡ padded (pos 0) (weights (site.edges_of o)) z
+      → plan_done n (take m F) (take m S) (take m W) flag budget ≡ done_as o
+  accepted_done (site.read s) e x y z f g h =
+      rw (
+        ap nodes_in e,
+        ap flag_in e,
+        ap budget_in e,
+        part (λ (x : Edge). x.first) 0 x s e f,
+        part (λ (x : Edge). x.second) 0 y s e g,
+        part (λ (x : Edge). x.weight) (pos 0) z s e h,
+      ) (read_done s)
+  accepted_done (site.refused c place) e x y z f g h = different e tt (λ t. t)
 
 -- ---- the reader's answer on lists of 2,048 entries
 
@@ -148,6 +180,9 @@ module _ (file F S : List ℕ) (W : List ℤ) (f : length F ≡ 2048) (g : lengt
 
     pub complained : (x : Refused) → r ≡ Err x → printed_complaint (complaint_of x.what) x.place ≡ answered file
     complained x e = refused_text (complaint_of x.what) x.place (site.read_site 2048 file) (sym (ap told_by e) ∙ outcome)
+
+    pub not_done : (x : Refused) → r ≡ Err x → false ≡ done file
+    not_done x e = refused_done (site.complaint_number (complaint_of x.what)) x.place (site.read_site 2048 file) (sym (ap told_by e) ∙ outcome)
 
     module _ (x : Head) (e : r ≡ Ok x) where
       accepted : site.accepted x.nodes x.flag x.budget x.edges ≡ site.told (site.read_site 2048 file)
@@ -163,9 +198,16 @@ module _ (file F S : List ℕ) (W : List ℤ) (f : length F ≡ 2048) (g : lengt
       weight_part = rw whole_room at a.weights
 
       pub planned : plan_text x.nodes (take x.edges F') (take x.edges S') (take x.edges W') x.flag x.budget ≡ answered file
-      planned = accepted_text x.nodes x.flag x.budget x.edges (site.read_site 2048 file) accepted (length F) (length S) (length W) first_part second_part weight_part
+      planned =
+          accepted_text x.nodes x.flag x.budget x.edges (site.read_site 2048 file) accepted (length F) (length S) (length W)
+          first_part second_part weight_part
 
-pub ruleset answers = (complained, planned)
+      pub planned_done : plan_done x.nodes (take x.edges F') (take x.edges S') (take x.edges W') x.flag x.budget ≡ done file
+      planned_done =
+          accepted_done x.nodes x.flag x.budget x.edges (site.read_site 2048 file) accepted (length F) (length S) (length W)
+          first_part second_part weight_part
+
+pub ruleset answers = (complained, not_done, planned, planned_done)
 
 -- ---- a buffer that held only 0
 
@@ -177,10 +219,12 @@ put_by L {buffer} {after} {text} {end} e p =
     let m : end ≤ L = omega (arith, k, length-take L text) in
     let q : end + (L - end) ≡ L = omega arith in
     let r : drop {A = ℕ} end (replicate L 0) ≡ replicate (L - end) 0 = rw q at (drop_replicate {A = ℕ} end (L - end) 0) in
-    let s : drop {A = ℕ} end after ≡ replicate (L - length (take L text)) 0 = p.rest ∙ ap (λ (x : List ℕ). drop end x) e ∙ r ∙ ap (λ (i : ℕ). replicate (L - i) 0) k in
+    let s : drop {A = ℕ} end after ≡ replicate (L - length (take L text)) 0 =
+    p.rest ∙ ap (λ (x : List ℕ). drop end x) e ∙ r ∙ ap (λ (i : ℕ). replicate (L - i) 0) k in
     let t : take end after ≡ take L text = p.holds ∙ ap (λ (i : ℕ). take i text) l in
     (sym (take-append-drop end after) ∙ ap (λ (x : List ℕ). x ++ drop end after) t ∙ ap (λ (x : List ℕ). take L text ++ x) s, k)
 
-pub put_all : (L : ℕ) {after : List ℕ} (text : List ℕ) {end : ℕ} → page after end ≡ with_text text (page (replicate L 0) 0) → (after ≡ padded 0 (take L text) L) × (end ≡ length (take L text))
+pub put_all : (L : ℕ) {after : List ℕ} (text : List ℕ) {end : ℕ} → page after end ≡ with_text text (page (replicate L 0) 0)
+    → (after ≡ padded 0 (take L text) L) × (end ≡ length (take L text))
 put_all L {after} text {end} e =
     put_by L refl (subst (λ (q : Page). Put (replicate L 0) 0 text q.bytes q.len) (sym e) (text_puts text (page (replicate L 0) 0) zero-le))

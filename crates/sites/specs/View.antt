@@ -5,6 +5,7 @@ use Rattle.certificate.specs.Lists.{lent, room}
 use Rattle.numbers.specs.Near.{Near}
 use Rattle.printed.specs.Answer.{printed}
 use Rattle.plan.specs.View.{plan_lists}
+use Rattle.sites.specs.Answered.{is_done}
 use Rattle.sites.specs.declared.site.Site.{Site}
 use Rattle.plan.specs.declared.answers.Answer as answer
 use Rattle.plan.specs.declared.answers.Answer.TheVariants as answers
@@ -21,8 +22,15 @@ unfoldable pub plan_text : (n : ℕ) → (first second : List ℕ) → (weight :
 plan_text n first second weight flag budget =
     printed (lent n first second weight) (plan_lists (room n (2 * n) (2 * n)) n first second weight flag budget)
 
+-- whether it is done
+unfoldable pub plan_done : (n : ℕ) → (first second : List ℕ) → (weight : List ℤ) → (flag : Bool) → (budget : ℕ) → Bool
+plan_done n first second weight flag budget = is_done (plan_lists (room n (2 * n) (2 * n)) n first second weight flag budget).answer
+
 abbrev pub graph_in : Site → Graph
 graph_in s = lent s.n s.first.now s.second.now s.weight.now
 
 abbrev pub site_text : Site → List ℕ
 site_text s = plan_text s.n s.first.now s.second.now s.weight.now s.flag s.budget
+
+abbrev pub site_done : Site → Bool
+site_done s = plan_done s.n s.first.now s.second.now s.weight.now s.flag s.budget

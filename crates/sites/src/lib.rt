@@ -1,13 +1,14 @@
-// From a site file's bytes to the printed answer: reads the file, plans it, and prints the plan or the refusal into a lent buffer.
+// From a site file's bytes to the printed answer: reads the file, plans it, and prints the plan or the refusal into a lent buffer. Each
+// function says besides whether the plan is done.
 #![tactic(auto)]
 
 ghost use Rattle.std.specs.Prelude.{◌≡◌, List, ℕ, ◌*◌, ◌≤◌, ℤ, length, take};
 ghost use Rattle.records.specs.WholeView.{padded};
 ghost use Rattle.printed.specs.Answer.{printed};
 ghost use Rattle.printed.specs.Written.{Puts};
-ghost use Rattle.sites.specs.Answered.{answered};
-ghost use Rattle.plan.specs.View.{plan_of};
-ghost use Rattle.sites.specs.View.{Weighs, graph_in, plan_text, site_text};
+ghost use Rattle.sites.specs.Answered.{answered, done, is_done};
+ghost use Rattle.plan.specs.View.{answer_of, plan_of};
+ghost use Rattle.sites.specs.View.{Weighs, graph_in, plan_text, plan_done, site_text, site_done};
 
 mod site;
 
@@ -20,12 +21,20 @@ use printed::text::Text;
 use records::site::Head;
 use records::whole::read_site;
 
+// What was printed: how many bytes, and whether the plan is done.
+#[derive(Clone, Copy, Debug, PartialEq, Eq)]
+pub struct Printed {
+    pub size: usize,
+    pub done: bool,
+}
+
 // The text of a plan's answer.
 #[tactic(auto, unfolding(printed::specs::Answer::printed_answer))]
-fn put_answer(text: &mut Text, site: Site, answer: Answer, mates: &[u16])
+fn put_answer(text: &mut Text, site: Site, answer: Answer, mates: &[u16]) -> bool
     requires mated { length mates.now ≡ site.n }
     requires weighs { Weighs answer site.weight.now }
-    ensures { (duals : List ℤ) → (parents : List ℕ) → Puts (printed (graph_in site.entry) (plan_of answer mates.now duals parents)) text.old text.new }
+    ensures done { result ≡ is_done (answer_of answer) }
+    ensures text { (duals : List ℤ) → (parents : List ℕ) → Puts (printed (graph_in site.entry) (plan_of answer mates.now duals parents)) text.old text.new }
 {
     match answer {
         Answer::Done(steps) => text.put_done(
@@ -42,19 +51,20 @@ fn put_answer(text: &mut Text, site: Site, answer: Answer, mates: &[u16])
         Answer::Fault(_) => text.put_other(b"FAULT", 0),
         Answer::Refused(cause) => text.put_refusal(cause),
     }
+    matches!(answer, Answer::Done(_))
 }
 
 // The text of a site's plan. The plan's lists are lent.
-
 fn answer_lists(
     text: &mut Text,
     site: Site,
     mates: &mut [u16],
     duals: &mut [i64],
     parents: &mut [u16],
-)
+) -> bool
     requires { (length mates.old ≡ site.n) × (length duals.old ≡ 2 * site.n) × (length parents.old ≡ 2 * site.n) }
-    ensures { Puts (site_text site.entry) text.old text.new }
+    ensures done { result ≡ site_done site.entry }
+    ensures text { Puts (site_text site.entry) text.old text.new }
 {
     let answer = plan(
         usize::from(site.n),
@@ -67,12 +77,13 @@ fn answer_lists(
         duals,
         parents,
     );
-    put_answer(text, site, answer, mates);
+    put_answer(text, site, answer, mates)
 }
 
 // The same in lists of its own.
-fn answer_site(text: &mut Text, site: Site)
-    ensures { Puts (site_text site.entry) text.old text.new }
+fn answer_site(text: &mut Text, site: Site) -> bool
+    ensures done { result ≡ site_done site.entry }
+    ensures text { Puts (site_text site.entry) text.old text.new }
 {
     let k = usize::from(site.n);
     let mut mates = [MISSING; 64];
@@ -84,13 +95,14 @@ fn answer_site(text: &mut Text, site: Site)
         &mut mates[..k],
         &mut duals[..2 * k],
         &mut parents[..2 * k],
-    );
+    )
 }
 
 // The site of a file that reads well; its edges stand at the front of the lists.
 fn site_of<'a>(h: Head, first: &'a [u16], second: &'a [u16], weight: &'a [i64]) -> Site<'a>
     requires { (h.edges ≤ length first.now) × (h.edges ≤ length second.now) × (h.edges ≤ length weight.now) }
-    ensures { site_text result ≡ plan_text h.nodes (take h.edges first.now) (take h.edges second.now) (take h.edges weight.now) h.flag h.budget }
+    ensures done { site_done result ≡ plan_done h.nodes (take h.edges first.now) (take h.edges second.now) (take h.edges weight.now) h.flag h.budget }
+    ensures text { site_text result ≡ plan_text h.nodes (take h.edges first.now) (take h.edges second.now) (take h.edges weight.now) h.flag h.budget }
 {
     let m = usize::from(h.edges);
     Site {
@@ -111,21 +123,26 @@ fn answer_file(
     first: &mut [u16],
     second: &mut [u16],
     weight: &mut [i64],
-)
+) -> bool
     requires { (length first.old ≡ 2048) × (length second.old ≡ 2048) × (length weight.old ≡ 2048) }
-    ensures { Puts (answered file.now) text.old text.new }
+    ensures done { result ≡ done file.now }
+    ensures text { Puts (answered file.now) text.old text.new }
 {
     match read_site(file, first, second, weight) {
         Ok(h) => answer_site(text, site_of(h, first, second, weight)),
-        Err(refused) => text.put_complaint(refused.what, refused.place as u64),
+        Err(refused) => {
+            text.put_complaint(refused.what, refused.place as u64);
+            false
+        }
     }
 }
 
-// Plans a site file: how many bytes of `out` are the printed answer, which is cut where the buffer ends. Every other byte is 0.
+// Plans a site file: the printed answer stands at the front of `out`, cut where the buffer ends. Every other byte is 0.
 
-pub fn plan_site(file: &[u8], out: &mut [u8]) -> usize
+pub fn print_site(file: &[u8], out: &mut [u8]) -> Printed
     ensures out_after { out.new ≡ padded 0 (take (length out.old) (answered file.now)) (length out.old) }
-    ensures value { result ≡ length (take (length out.old) (answered file.now)) }
+    ensures size { result.size ≡ length (take (length out.old) (answered file.now)) }
+    ensures done { result.done ≡ done file.now }
 {
     out.fill(0);
     let mut first = [0u16; 2048];
@@ -135,6 +152,17 @@ pub fn plan_site(file: &[u8], out: &mut [u8]) -> usize
         out: &mut *out,
         len: 0,
     };
-    answer_file(&mut text, file, &mut first, &mut second, &mut weight);
-    text.len
+    let done = answer_file(&mut text, file, &mut first, &mut second, &mut weight);
+    Printed {
+        size: text.len,
+        done,
+    }
+}
+
+// The same for callers that read the answer's name: how many bytes of `out` are the printed answer.
+pub fn plan_site(file: &[u8], out: &mut [u8]) -> usize
+    ensures out_after { out.new ≡ padded 0 (take (length out.old) (answered file.now)) (length out.old) }
+    ensures value { result ≡ length (take (length out.old) (answered file.now)) }
+{
+    print_site(file, out).size
 }

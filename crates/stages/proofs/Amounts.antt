@@ -1,23 +1,22 @@
--- The least of a list: the code begins with its first number and goes over all of it. The last amount.
-use Rattle.std.proofs.Common.{◌≡◌, refl, arith, Bool, true, false, cond, ℕ, ◌+◌, ◌<◌}
-use Rattle.std.proofs.Common.{◌≤◌, ℤ, pos, nat_abs, take, List, [], ◌∷◌, length, get_or, drop, drop-cons, drop_of_length-le, add-one}
+-- The least of a list by the library's order, what is below the least amount so far, and the last amount.
+use Rattle.std.proofs.Common.{◌≡◌, refl, sym, ap, arith, Bool, true, false, cond, ℤ, pos, take, List, [], ◌∷◌, Option}
 use lib.Signed.{lt_z}
-use Rattle.std.specs.Int.{int_min, int_max}
-use Rattle.std.proofs.lemmas.Int.{ints, int_min_is, int_max_is}
+use Rattle.std.specs.Int.{int_max}
+use Rattle.std.specs.List.{fold, reduce}
+use Rattle.std.specs.Option.{ok_or}
+use Rattle.std.specs.Ordering.{int_cmp, min_by_ordering}
+use Rattle.std.specs.declared.cmp.Ordering.TheVariants.{Less, Equal, Greater}
+use Rattle.std.proofs.lemmas.Int.{ints, int_max_is}
 use Rattle.laws.specs.Integers.{lesser, greater, least_from}
 use Rattle.laws.specs.Run.{ok}
-use Rattle.laws.proofs.Integers.{lesser_near}
+use Rattle.numbers.specs.declared.faults.Fault.{Fault}
+use Rattle.numbers.specs.Answers.{Answers}
 use Rattle.matching.specs.Graph.{Graph}
 use Rattle.steps.specs.State.{State}
-use Rattle.steps.specs.Adjust.{no_delta, type1, least_dual, delta_last}
-
-min_is : (a b : ℤ) → lesser a b ≡ int_min a b
-unfolding lesser
-min_is a b = by (lt_z b a) refl
-  where
-    by : (t : Bool) → lt_z b a ≡ t → cond t b a ≡ int_min a b
-    by true e = omega (arith, ints, int_min_is a b)
-    by false e = omega (arith, ints, int_min_is a b)
+use Rattle.stages.specs.Deltas.{typed}
+use Rattle.stages.specs.declared.delta.By.{By}
+use Rattle.stages.specs.declared.delta.By.TheVariants.{One, Two, Three, Four}
+use Rattle.steps.specs.Adjust.{less_than, no_delta, type1, least_dual, delta_last}
 
 max_is : (a : ℤ) → greater (pos 0) a ≡ int_max a (pos 0)
 unfolding greater
@@ -27,29 +26,38 @@ max_is a = by (lt_z (pos 0) a) refl
     by true e = omega (arith, ints, int_max_is a (pos 0))
     by false e = omega (arith, ints, int_max_is a (pos 0))
 
-pub min_near : (k : ℕ) (a b : ℤ) → nat_abs a ≤ k → nat_abs b ≤ k → nat_abs (int_min a b) ≤ k
-min_near k a b h l = rw (← min_is a b) (lesser_near k a b h l)
+-- ---- the least of a list
 
-same : (a : ℤ) → lesser a a ≡ a
+-- the library's lesser of two
+picked : (a b : ℤ) → min_by_ordering (int_cmp a b) a b ≡ lesser a b
 unfolding lesser
-same a = by (lt_z a a)
+picked a b = by (lt_z a b) (lt_z b a) refl refl
   where
-    by : (t : Bool) → cond t a a ≡ a
-    by true = refl
-    by false = refl
+    by : (t u : Bool) → lt_z a b ≡ t → lt_z b a ≡ u → min_by_ordering (cond t Less (cond u Greater Equal)) a b ≡ cond u b a
+    by true true e f = grind (arith, ints)
+    by true false e f = refl
+    by false true e f = refl
+    by false false e f = refl
 
-pub least_first : (ds : List ℤ) → 0 < length ds → least_dual ds ≡ ok (least_from (get_or ds 0 (pos 0)) ds)
-unfolding least_dual least_from
-least_first [] h = absurd (omega arith)
-least_first (d ∷ ds) h = rw (same d)
-
-pub least_next : (ds : List ℤ) (i : ℕ) (d : ℤ) → i < length ds → least_from (int_min d (get_or ds i (pos 0))) (drop (i + 1) ds) ≡ least_from d (drop i ds)
+folded : (a : ℤ) (bs : List ℤ) → fold (λ p z. min_by_ordering (int_cmp p z) p z) a bs ≡ least_from a bs
 unfolding least_from
-least_next ds i d h = rw (drop-cons ds i (pos 0) h, ← min_is d (get_or ds i (pos 0)), add-one)
+folded a [] = refl
+folded a (b ∷ bs) = rw (picked a b) (folded (lesser a b) bs)
 
-pub least_end : (ds : List ℤ) (i : ℕ) (d : ℤ) → length ds ≤ i → least_from d (drop i ds) ≡ d
-unfolding least_from
-least_end ds i d h = rw (drop_of_length-le ds h)
+pub least_told : (ds : List ℤ) (r : Option ℤ) (e : Fault) → r ≡ reduce (λ p z. min_by_ordering (int_cmp p z) p z) ds → Answers (least_dual ds) (ok_or r e)
+unfolding least_dual
+least_told [] r e h = rw h refl
+least_told (d ∷ ds) r e h = rw h (ap ok (sym (folded d ds)))
+
+-- ---- below the least amount so far
+
+pub below_typed : (d a : ℤ) (by : By) → less_than d (typed by a) ≡ lt_z d a
+below_typed d a One = refl
+below_typed d a (Two e) = refl
+below_typed d a (Three e) = refl
+below_typed d a (Four b) = refl
+
+pub ruleset belows = (below_typed)
 
 -- no candidate under the flag
 pub last_least : (G : Graph) (s : State) (d : ℤ) → least_dual (take G.nodes s.pairing.duals) ≡ ok d → delta_last G s no_delta ≡ ok (type1 (int_max d (pos 0)))

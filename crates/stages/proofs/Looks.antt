@@ -1,9 +1,11 @@
 -- Laws of looks: keeping an edge where the best one's slack is told, and a visit that a look settled.
-use Rattle.std.proofs.Common.{if◌then◌else◌, ◌≡◌, ◌+◌, ◌<◌, ℕ, ℤ, List, Bool, true, false, refl}
-use Rattle.std.proofs.Common.{drop, length, set, slice_index, add-one, drop-cons, ltb, length-set, ap, ◌∙◌}
+use Rattle.std.proofs.Common.{if◌then◌else◌, ◌≡◌, ◌+◌, ◌-◌, ◌<◌, ℕ, suc, ℤ, List, ◌∷◌, Bool, true, false, refl}
+use Rattle.std.proofs.Common.{drop, length, set, arith, ltb, length-set, length-drop, ap, sym, ◌∙◌, Result, Ok, Err, IfOk, is_err}
 use Rattle.std.proofs.lemmas.Bool.{ltb-true}
 use Rattle.std.specs.Int.Signed.{lt_z}
-use lib.Seq.{get_or-set_same}
+use Rattle.std.specs.Bool.{⊤}
+use Rattle.std.specs.Result.{result_unwrap_or}
+use lib.Seq.{drop-drop, get_or-set_same}
 use Rattle.laws.specs.Run.{Run, ok, fault, ◌>>=◌, at, put, only_if}
 use Rattle.laws.proofs.Runs.{ok_inj, not_ok}
 use Rattle.laws.proofs.Windows.{at_in}
@@ -13,8 +15,11 @@ use Rattle.steps.specs.State.{State, Progress}
 use Rattle.steps.specs.Stores.{with_best, put_best}
 use Rattle.steps.specs.Steps.{keep_best, keep_edge, visit, visit_all, is_closing}
 use Rattle.state.specs.Parts.{Parts, state_of}
-use Rattle.stages.specs.Look.{best_slack, Looked}
-use Rattle.stages.specs.declared.look.Seen.TheVariants.{Own}
+use Rattle.numbers.specs.declared.faults.Fault.{Fault}
+use Rattle.numbers.specs.Answers.{Agrees, Kept}
+use Rattle.stages.specs.Look.{best_slack, Looked, Sees}
+use Rattle.stages.specs.declared.look.Seen.{Seen}
+use Rattle.stages.specs.declared.look.Seen.TheVariants.{Own, Rest}
 
 -- ---- keeping an edge
 
@@ -49,16 +54,38 @@ pub ruleset keeps = (keep_pass, keep_own)
 
 -- ---- a visit that is settled by a look
 
-module _ (turns : (n c : ℕ) → Bool) (G : Graph) (v i : ℕ) (row : List ℕ) (s : State) where
-  pub passed : is_closing s.progress.phase ≡ false → i < length row → visit turns G v (slice_index row i) s ≡ ok s
-      → visit_all turns G v (drop (i + 1) row) s ≡ visit_all turns G v (drop i row) s
+module _ (turns : (n c : ℕ) → Bool) (G : Graph) (v p : ℕ) (rest : List ℕ) (s : State) where
+  pub passed : is_closing s.progress.phase ≡ false → visit turns G v p s ≡ ok s → visit_all turns G v rest s ≡ visit_all turns G v (p ∷ rest) s
   unfolding visit_all
-  passed o h e = rw (drop-cons row i 0 h, e, o, add-one)
+  passed o e = rw (e, o)
 
-  pub owned : (t : State) → is_closing t.progress.phase ≡ false → i < length row → visit turns G v (slice_index row i) s ≡ ok t
-      → visit_all turns G v (drop (i + 1) row) t ≡ visit_all turns G v (drop i row) s
+  pub owned : (t : State) → is_closing t.progress.phase ≡ false → visit turns G v p s ≡ ok t
+      → visit_all turns G v rest t ≡ visit_all turns G v (p ∷ rest) s
   unfolding visit_all
-  owned t o h e = rw (drop-cons row i 0 h, e, o, add-one)
+  owned t o e = rw (e, o)
+
+-- what a look that may fault says, where a fault counts as Rest
+pub seen : (r : Result Seen Fault) (q : Seen) (G : Graph) (i e : ℕ) (f : State → Run State) (s : Parts) (here : Progress)
+    → IfOk r (λ r. Sees r G i e f s here) → q ≡ result_unwrap_or r Rest → Sees q G i e f s here
+seen (Ok r) q G i e f s here h u = rw u h
+seen (Err x) q G i e f s here h u = rw u tt
+
+-- a store that is asked whether it failed
+pub stored_fine : (x : Run State) (r : Result ⊤ Fault) (t : State) → Agrees x r t → false ≡ is_err r → x ≡ ok t
+stored_fine x (Ok u) t a e = a
+stored_fine x (Err f) t a e = cc
+
+pub stored_not : (r : Result ⊤ Fault) (s t : Parts) → Kept r s t → true ≡ is_err r → t ≡ s
+stored_not (Ok u) s t k e = cc
+stored_not (Err f) s t k e = k
+
+-- the rest of a row after its next end
+pub row_on : (row left rest : List ℕ) (p : ℕ) → left ≡ drop (length row - length left) row → left ≡ p ∷ rest → rest ≡ drop (length row - length rest) row
+row_on row left rest p e f =
+    let n : length (drop (length row - length left) row) ≡ length row - (length row - length left) = length-drop (length row - length left) row in
+    let l : length left ≡ suc (length rest) = ap length f in
+    let k : length row - length rest ≡ length row - length left + 1 = omega (arith, n, l, ap length e) in
+    rw (k, ← drop-drop 1 (length row - length left) row, ← e, f)
 
 -- the best edge's slack after a store
 
@@ -85,5 +112,18 @@ keen_now G b x k s s' here p m e = by (put s.labels.lists.best b x) refl p
         let f : l ≡ s'.labels.lists.best = ap (λ (t : State). t.labelling.best) w in
         let d : s.pairing.lists.duals ≡ s'.pairing.lists.duals = ap (λ (t : State). t.pairing.duals) w in
         rw (← f, ← d, stored s.labels.lists.best b x l h, m, e)
+
+-- a store of a best edge changes nothing else
+pub only_best : (b x : ℕ) (s s' s₀ : Parts) (here : Progress) → state_of s here ≡ with_best s.labels.lists.best (state_of s₀ here)
+    → put_best b x (state_of s here) ≡ ok (state_of s' here) → state_of s' here ≡ with_best s'.labels.lists.best (state_of s₀ here)
+only_best b x s s' s₀ here o p = by (put s.labels.lists.best b x) p
+  where
+    by : (r : Run (List ℕ)) → (r >>= λ l. ok (with_best l (state_of s here))) ≡ ok (state_of s' here)
+        → state_of s' here ≡ with_best s'.labels.lists.best (state_of s₀ here)
+    by fault q = not_ok q
+    by (ok l) q =
+        let w : with_best l (state_of s here) ≡ state_of s' here = ok_inj q in
+        let f : l ≡ s'.labels.lists.best = ap (λ (t : State). t.labelling.best) w in
+        sym w ∙ ap (with_best l) o ∙ ap (λ m. with_best m (state_of s₀ here)) f
 
 pub ruleset rests = (passed, owned)

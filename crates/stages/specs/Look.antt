@@ -1,12 +1,11 @@
 -- A look at a neighbour of a taken node: what it says of the visit, and what it is told of the best edge of the node's group.
 -- Definitions only.
-use Rattle.std.specs.Prelude.{if◌then◌else◌, ◌≡◌, Bool, false, List, ℕ, ℤ, Option, Some, None, drop}
+use Rattle.std.specs.Prelude.{if◌then◌else◌, ◌≡◌, Bool, false, List, ℕ, ℤ, Option, Some, None}
 use Rattle.laws.specs.Run.{Run, ok, fault, ◌>>=◌, at}
 use Rattle.matching.specs.Graph.{Graph, is_missing}
 use Rattle.steps.specs.Ends.{slack_of}
 use Rattle.steps.specs.State.{State, Progress}
 use Rattle.steps.specs.Stores.{put_best}
-use Rattle.steps.specs.Steps.{visit_all}
 use Rattle.state.specs.Parts.{Parts, state_of}
 use Rattle.stages.specs.declared.look.Seen.{Seen}
 use Rattle.stages.specs.declared.look.Seen.TheVariants.{Pass, Own, Rest}
@@ -44,7 +43,3 @@ Keen G s i keen = Tells (best_slack G s.labels.lists.best s.pairing.lists.duals 
 -- which groups are turned, as in Augment
 abbrev pub Turns : Type 0
 Turns = (n c : ℕ) → Bool
-
--- the visits of v's neighbours that are left from place i of the row
-abbrev pub visits_from : Turns → Graph → (v : ℕ) → (row : List ℕ) → (i : ℕ) → Parts → Progress → Run State
-visits_from turns G v row i s here = visit_all turns G v (drop i row) (state_of s here)

@@ -11,46 +11,39 @@ ghost use Rattle.stages.specs.Deltas.{least_of, AnswersDelta, AnswersLeast, Smal
 
 use edges::graph::Graph;
 use numbers::faults::{Fault, must};
-use numbers::{Edge, Group, MISSING, Node};
+use numbers::{Edge, Group, Node};
 use state::lists::Lists;
 
-// An amount by its type, with the edge or group that gave it.
+// The type of an amount, with the edge or group that gave it.
 #[derive(Clone, Copy, Debug, PartialEq, Eq)]
-pub enum Delta {
-    One(i64),
-    Two(i64, Edge),
-    Three(i64, Edge),
-    Four(i64, Group),
+pub enum By {
+    One,
+    Two(Edge),
+    Three(Edge),
+    Four(Group),
+}
+
+#[derive(Clone, Copy, Debug, PartialEq, Eq)]
+pub struct Delta {
+    pub amount: i64,
+    pub by: By,
 }
 
 // Whether d is below the least amount so far.
+#[tactic(auto, using(crate::proofs::Amounts::belows))]
 fn less_than(d: i64, best: Option<Delta>) -> bool
     ensures { result ≡ less_than_of d (least_of best) }
 {
-    match best {
-        None => true,
-        Some(Delta::One(a)) => d < a,
-        Some(Delta::Two(a, _)) => d < a,
-        Some(Delta::Three(a, _)) => d < a,
-        Some(Delta::Four(a, _)) => d < a,
-    }
+    best.is_none_or(|b| d < b.amount)
 }
 
 // The least of a list that is not empty.
-#[tactic(auto, unfolding(steps::specs::Adjust::least_dual))]
 fn least(duals: &[i64]) -> Result<i64, Fault>
     requires { Near 4503599627370496 duals.now }
     ensures said { Answers (least_dual duals.now) result }
     ensures near { IfOk result (λ d. nat_abs d ≤ 4503599627370496) }
 {
-    if duals.is_empty() {
-        return Err(Fault);
-    }
-    let mut d = duals[0];
-    for &x in duals {
-        d = d.min(x);
-    }
-    Ok(d)
+    duals.iter().copied().min().ok_or(Fault)
 }
 
 // Type 1, without the flag: the least node dual.
@@ -64,7 +57,10 @@ fn delta_one(g: &Graph, lists: &Lists, flag: bool) -> Result<Option<Delta>, Faul
         return Ok(None);
     }
     let d = least(lists.node_duals())?;
-    Ok(Some(Delta::One(d)))
+    Ok(Some(Delta {
+        amount: d,
+        by: By::One,
+    }))
 }
 
 #[tactic(auto, unfolding(steps::specs::Adjust::offer2))]
@@ -75,7 +71,10 @@ fn offer_two(g: &Graph, lists: &Lists, e: Edge, best: Option<Delta>) -> Result<O
 {
     let d = lists.slack(g, e)?;
     if less_than(d, best) {
-        return Ok(Some(Delta::Two(d, e)));
+        return Ok(Some(Delta {
+            amount: d,
+            by: By::Two(e),
+        }));
     }
     Ok(best)
 }
@@ -95,9 +94,8 @@ fn delta_two_at(
     let t = lists.top(v)?;
     let l = lists.label(t.0)?;
     let e = lists.best(v.0)?;
-    if l == 0 && e.0 != MISSING {
-        let d = offer_two(g, lists, e, best)?;
-        return Ok(d);
+    if l == 0 && !e.is_missing() {
+        return offer_two(g, lists, e, best);
     }
     Ok(best)
 }
@@ -118,7 +116,10 @@ fn offer_three(
     must(k.unsigned_abs() % 2 == 0)?;
     let d = k / 2;
     if less_than(d, best) {
-        return Ok(Some(Delta::Three(d, e)));
+        return Ok(Some(Delta {
+            amount: d,
+            by: By::Three(e),
+        }));
     }
     Ok(best)
 }
@@ -138,9 +139,8 @@ fn delta_three_at(
     let p = lists.parent(b)?;
     let l = lists.label(b.0)?;
     let e = lists.best(b.0)?;
-    if p.0 == MISSING && l == 1 && e.0 != MISSING {
-        let d = offer_three(g, lists, e, best)?;
-        return Ok(d);
+    if p.is_missing() && l == 1 && !e.is_missing() {
+        return offer_three(g, lists, e, best);
     }
     Ok(best)
 }
@@ -158,7 +158,10 @@ fn delta_four_at(lists: &Lists, b: Group, best: Option<Delta>) -> Result<Option<
     let l = lists.label(b.0)?;
     let d = lists.dual(b.0)?;
     if l == 2 && less_than(d, best) {
-        return Ok(Some(Delta::Four(d, b)));
+        return Ok(Some(Delta {
+            amount: d,
+            by: By::Four(b),
+        }));
     }
     Ok(best)
 }
@@ -217,7 +220,10 @@ fn delta_last(g: &Graph, lists: &Lists, best: Option<Delta>) -> Result<Delta, Fa
         Some(d) => Ok(d),
         None => {
             let d = least(lists.node_duals())?;
-            Ok(Delta::One(d.max(0)))
+            Ok(Delta {
+                amount: d.max(0),
+                by: By::One,
+            })
         }
     }
 }
@@ -233,6 +239,5 @@ pub fn choose(g: &Graph, lists: &Lists, flag: bool) -> Result<Delta, Fault>
     let two = delta_two(g, lists, one)?;
     let three = delta_three(g, lists, two)?;
     let four = delta_four(g, lists, three)?;
-    let d = delta_last(g, lists, four)?;
-    Ok(d)
+    delta_last(g, lists, four)
 }

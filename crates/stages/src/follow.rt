@@ -22,8 +22,7 @@ fn resume(g: &Graph, lists: &mut Lists, v: Node) -> Result<(), Fault>
     let t = lists.top(v)?;
     let l = lists.label(t.0)?;
     must(l == 1)?;
-    lists.enqueue(g, v)?;
-    Ok(())
+    lists.enqueue(g, v)
 }
 
 // The end of edge x in a label-1 group: the second where the first is free.
@@ -50,8 +49,7 @@ pub fn follow_two(g: &Graph, lists: &mut Lists, e: Edge) -> Result<(), Fault>
     lists.put_allowed(e, true)?;
     let x = g.edge(e)?;
     let v = labelled_end(lists, x)?;
-    resume(g, lists, v)?;
-    Ok(())
+    resume(g, lists, v)
 }
 
 // After type 3: edge e between two label-1 groups is allowed. The end with a label is no choice here, so nothing is shared with type 2.
@@ -64,6 +62,5 @@ pub fn follow_three(g: &Graph, lists: &mut Lists, e: Edge) -> Result<(), Fault>
 {
     lists.put_allowed(e, true)?;
     let x = g.edge(e)?;
-    resume(g, lists, x.first)?;
-    Ok(())
+    resume(g, lists, x.first)
 }

@@ -7,7 +7,7 @@ ghost use Rattle.state.specs.Parts.{state_of, sized};
 
 use edges::graph::Graph;
 use numbers::faults::{Fault, must};
-use numbers::{Edge, End, MISSING, Node};
+use numbers::{Edge, End, Node};
 use state::lists::Lists;
 
 // The node that an edge leads to, the label of its outermost group and its own.
@@ -29,8 +29,7 @@ pub fn reach(lists: &mut Lists, w: Node, p: End) -> Result<(), Fault>
     let l = lists.label(t.0)?;
     must(l == 2)?;
     lists.put_label(w.0, 2)?;
-    lists.put_label_end(w.0, p.beside())?;
-    Ok(())
+    lists.put_label_end(w.0, p.beside())
 }
 
 // The edge e of slack k is the best one yet at node or group i.
@@ -41,9 +40,8 @@ fn keep_best(g: &Graph, lists: &mut Lists, i: u16, e: Edge, k: i64) -> Result<()
     ensures kids { lists.new.forest.kids ≡ lists.old.forest.kids }
 {
     let b = lists.best(i)?;
-    if b.0 == MISSING {
-        lists.put_best(i, e)?;
-        return Ok(());
+    if b.is_missing() {
+        return lists.put_best(i, e);
     }
     let d = lists.slack(g, b)?;
     if k < d {

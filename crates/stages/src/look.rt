@@ -1,17 +1,20 @@
 // Looking at the neighbours of a taken node. Most of their visits change nothing, or only the best edge of the node's group: a look,
 // which stores nothing, tells so. What a look does not settle is left for a whole visit.
-ghost use Rattle.std.specs.Prelude.{◌≡◌, false, ℕ, ◌/◌, ◌≤◌};
+ghost use Rattle.std.specs.Prelude.{◌≡◌, false, ℕ, ◌/◌, ◌-◌, drop, length};
+ghost use Rattle.std.specs.Result.{IfOk};
 ghost use Rattle.laws.specs.Run.{ok};
 ghost use Rattle.matching.specs.Graph.{is_missing};
 ghost use Rattle.steps.specs.Ends.{slack_of};
 ghost use Rattle.steps.specs.State.{Progress};
-ghost use Rattle.steps.specs.Steps.{is_closing, keep_best, keep_edge, pass_edge, visit as visit_of};
-ghost use Rattle.state.specs.Parts.{sized};
-ghost use Rattle.stages.specs.Look.{Turns, Sees, Of, Keen, visits_from};
+ghost use Rattle.steps.specs.Steps.{is_closing, keep_best, keep_edge, pass_edge, visit as visit_of, visit_all};
+ghost use Rattle.steps.specs.Stores.{with_best};
+ghost use Rattle.state.specs.Parts.{state_of, sized};
+ghost use Rattle.stages.specs.Look.{Turns, Sees, Of, Keen};
 
 use crate::keep::Met;
 use edges::graph::Graph;
-use numbers::{Edge, End, Group, MISSING, Node};
+use numbers::faults::Fault;
+use numbers::{Edge, End, Group, Node};
 use state::lists::Lists;
 
 // What a look says of a visit.
@@ -30,10 +33,8 @@ enum Seen {
 fn keenness(g: &Graph, lists: &Lists, i: u16) -> Option<i64>
     ensures { Keen g.now lists.now i result }
 {
-    let Ok(b) = lists.best(i) else {
-        return None;
-    };
-    if b.0 == MISSING {
+    let b = lists.best(i).ok()?;
+    if b.is_missing() {
         return None;
     }
     lists.slack(g, b).ok()
@@ -71,88 +72,79 @@ fn look_edge(g: &Graph, lists: &Lists, keen: Option<i64>, met: Met, e: Edge, k: 
 
 // The edge at end p to node w of another group, j, from a node whose group's best edge has slack keen.
 #[tactic(auto, unfolding(steps::specs::Steps::pass_edge, steps::specs::Steps::use_edge))]
-fn look_over(g: &Graph, lists: &Lists, keen: Option<i64>, w: Node, j: Group, p: End) -> Seen
-    ensures { (turns : Turns) (at : Progress) (v i : ℕ) → Of lists.now v i → Of lists.now w.0 j.0 → Keen g.now lists.now i keen → Sees result g.now i (p.0 / 2) (pass_edge turns g.now v w.0 p.0) lists.now at }
+fn look_over(
+    g: &Graph,
+    lists: &Lists,
+    keen: Option<i64>,
+    w: Node,
+    j: Group,
+    p: End,
+) -> Result<Seen, Fault>
+    ensures { (turns : Turns) (at : Progress) (v i : ℕ) → Of lists.now v i → Of lists.now w.0 j.0 → Keen g.now lists.now i keen → IfOk result (λ r. Sees r g.now i (p.0 / 2) (pass_edge turns g.now v w.0 p.0) lists.now at) }
 {
-    let Ok(l) = lists.label(j.0) else {
-        return Seen::Rest;
-    };
-    let Ok(lw) = lists.label(w.0) else {
-        return Seen::Rest;
-    };
+    let group_label = lists.label(j.0)?;
+    let label = lists.label(w.0)?;
     let e = p.edge();
-    let Ok(allowed) = lists.is_allowed(e) else {
-        return Seen::Rest;
-    };
-    if allowed {
-        return if l < 2 || lw == 0 {
+    if lists.is_allowed(e)? {
+        return Ok(if group_label < 2 || label == 0 {
             Seen::Rest
         } else {
             Seen::Pass
-        };
+        });
     }
-    let Ok(k) = lists.slack(g, e) else {
-        return Seen::Rest;
-    };
+    let k = lists.slack(g, e)?;
     if k <= 0 {
-        return Seen::Rest;
+        return Ok(Seen::Rest);
     }
     let met = Met {
         node: w,
-        group_label: l,
-        label: lw,
+        group_label,
+        label,
     };
-    look_edge(g, lists, keen, met, e, k)
+    Ok(look_edge(g, lists, keen, met, e, k))
 }
 
 // The neighbour at end p of a node of group i.
 #[tactic(auto, unfolding(steps::specs::Steps::visit))]
-fn look(g: &Graph, lists: &Lists, i: Group, keen: Option<i64>, p: End) -> Seen
-    ensures { (turns : Turns) (at : Progress) (v : ℕ) → Of lists.now v i.0 → Keen g.now lists.now i.0 keen → Sees result g.now i.0 (p.0 / 2) (visit_of turns g.now v p.0) lists.now at }
+fn look(g: &Graph, lists: &Lists, i: Group, keen: Option<i64>, p: End) -> Result<Seen, Fault>
+    ensures { (turns : Turns) (at : Progress) (v : ℕ) → Of lists.now v i.0 → Keen g.now lists.now i.0 keen → IfOk result (λ r. Sees r g.now i.0 (p.0 / 2) (visit_of turns g.now v p.0) lists.now at) }
 {
-    let Ok(w) = g.endpoint(p) else {
-        return Seen::Rest;
-    };
-    let Ok(j) = lists.top(w) else {
-        return Seen::Rest;
-    };
-    if i.0 == j.0 {
-        return Seen::Pass;
+    let w = g.endpoint(p)?;
+    let j = lists.top(w)?;
+    if i == j {
+        return Ok(Seen::Pass);
     }
     look_over(g, lists, keen, w, j, p)
 }
 
-// The neighbours of v at the ends of a row from place `from` on, until one is left for a whole visit; the answer is its place.
+// The neighbours of v at the ends of a row in order, until one is left for a whole visit; the answer is the rest of the row, from its
+// end on. A look that faults leaves the neighbour to the visit, which faults too.
 #[tactic(auto, using(crate::proofs::Looks::rests))]
-pub fn look_on(g: &Graph, lists: &mut Lists, v: Node, row: &[u16], from: usize) -> usize
-    ensures past { from ≤ result }
-    ensures said { (turns : Turns) (at : Progress) → is_closing at.phase ≡ false → visits_from turns g.now v.0 row.now result lists.new at ≡ visits_from turns g.now v.0 row.now from lists.old at }
+pub fn look_on<'r>(g: &Graph, lists: &mut Lists, v: Node, row: &'r [u16]) -> &'r [u16]
+    ensures end { result.now ≡ drop (length row.now - length result.now) row.now }
+    ensures said { (turns : Turns) (at : Progress) → is_closing at.phase ≡ false → visit_all turns g.now v.0 result.now (state_of lists.new at) ≡ visit_all turns g.now v.0 row.now (state_of lists.old at) }
+    ensures best { (at : Progress) → state_of lists.new at ≡ with_best lists.new.labels.lists.best (state_of lists.old at) }
     ensures size { sized lists.new ≡ sized lists.old }
     ensures kids { lists.new.forest.kids ≡ lists.old.forest.kids }
 {
     let Ok(group) = lists.top(v) else {
-        return from;
+        return row;
     };
     let mut keen = keenness(g, lists, group.0);
-    let mut i = from;
-    // Counted by hand: the place where the looks end is the answer.
-    while i < row.len() {
-        let p = End(row[i]);
-        match look(g, lists, group, keen, p) {
-            Seen::Pass => {
-                i += 1;
-            }
+    let mut left = row;
+    while let Some((&p, rest)) = left.split_first() {
+        let p = End(p);
+        match look(g, lists, group, keen, p).unwrap_or(Seen::Rest) {
+            Seen::Pass => {}
             Seen::Own(k) => {
-                let Ok(_) = lists.put_best(group.0, p.edge()) else {
-                    return i;
-                };
+                if lists.put_best(group.0, p.edge()).is_err() {
+                    return left;
+                }
                 keen = Some(k);
-                i += 1;
             }
-            Seen::Rest => {
-                return i;
-            }
+            Seen::Rest => return left,
         }
+        left = rest;
     }
-    i
+    left
 }

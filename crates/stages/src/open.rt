@@ -23,7 +23,7 @@ fn root_at(g: &Graph, lists: &mut Lists, v: Node) -> Result<(), Fault>
     let m = lists.mate(v)?;
     let t = lists.top(v)?;
     let l = lists.label(t.0)?;
-    if m.0 == MISSING && l == 0 {
+    if m.is_missing() && l == 0 {
         lists.label_one(g, v, End(MISSING))?;
     }
     Ok(())
@@ -52,6 +52,5 @@ pub fn open_stage(g: &Graph, lists: &mut Lists) -> Result<(), Fault>
     ensures kids { lists.new.forest.kids ≡ lists.old.forest.kids }
 {
     lists.forget(g);
-    roots(g, lists)?;
-    Ok(())
+    roots(g, lists)
 }

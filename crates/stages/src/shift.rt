@@ -19,7 +19,7 @@ const MAX_DUAL: i64 = 4503599627370496;
 fn fits_dual(d: i64) -> bool
     ensures { result ≡ leb (nat_abs d) max_dual }
 {
-    -MAX_DUAL <= d && d <= MAX_DUAL
+    (-MAX_DUAL..=MAX_DUAL).contains(&d)
 }
 
 // Dual i becomes d where it fits.
@@ -30,8 +30,7 @@ fn put_fit_dual(lists: &mut Lists, i: u16, d: i64) -> Result<(), Fault>
     ensures kids { lists.new.forest.kids ≡ lists.old.forest.kids }
 {
     must(fits_dual(d))?;
-    lists.put_dual(i, d)?;
-    Ok(())
+    lists.put_dual(i, d)
 }
 
 // A node of a label-1 group loses delta, of a label-2 group gains it.
@@ -109,6 +108,5 @@ pub fn move_duals(g: &Graph, lists: &mut Lists, delta: i64) -> Result<(), Fault>
     ensures kids { lists.new.forest.kids ≡ lists.old.forest.kids }
 {
     move_nodes(g, lists, delta)?;
-    move_groups(g, lists, delta)?;
-    Ok(())
+    move_groups(g, lists, delta)
 }

@@ -1,5 +1,6 @@
 -- The row of a group as the places that it lies in.
-use Rattle.std.proofs.Common.{if◌then◌else◌, ◌≡◌, Bool, true, false, not, List, [], ℕ, ◌+◌, ◌*◌, ◌-◌, ◌≤◌, ◌<◌, ltb, length, take, drop, min, slice_index, refl, ◌∙◌, sym, arith}
+use Rattle.std.proofs.Common.{if◌then◌else◌, ◌≡◌, Bool, true, false, not, List, [], ℕ, ◌+◌, ◌*◌, ◌-◌, ◌≤◌, ◌<◌, ltb}
+use Rattle.std.proofs.Common.{length, take, drop, min, slice_index, refl, ◌∙◌, sym, arith}
 use lib.Dec.{T, nltb→le}
 use lib.ListN.{length-take, length-drop}
 use Rattle.laws.specs.Run.{ok, at}

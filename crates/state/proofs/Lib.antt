@@ -7,3 +7,5 @@ pub mod Unstored
 pub mod Emptied
 pub mod Empty
 pub mod OuterLaws
+pub mod Passes
+pub mod PlaceLaws

@@ -1,13 +1,12 @@
 // The forest of groups: outermost groups, parents, bases, the rings of children, the numbers that are free.
-ghost use Rattle.std.specs.Prelude.{◌≡◌, ◌+◌, ◌*◌, ◌-◌, ◌≤◌, ◌<◌, [], length, get_or};
+ghost use Rattle.std.specs.Prelude.{◌≡◌, ◌*◌, ◌≤◌, ◌<◌, [], length};
 ghost use Rattle.std.specs.Result.{IfOk};
-ghost use Rattle.laws.specs.Run.{at, push as push_of};
+ghost use Rattle.laws.specs.Run.{at};
 ghost use Rattle.steps.specs.State.{Labelling as LabellingOf, Pairing as PairingOf, Progress};
 ghost use Rattle.steps.specs.Stores.{put_top, put_parent, put_base, put_children, put_ring_ends};
 ghost use Rattle.steps.specs.Leaves.{leaves as leaves_of};
 ghost use Rattle.numbers.specs.Answers.{AnswersNode, AnswersGroup, AnswersRow, RowFits, Agrees};
-ghost use Rattle.state.specs.Parts.{whole, forest_of};
-ghost use Rattle.state.specs.Views.{TreesFit};
+ghost use Rattle.state.specs.Parts.{whole};
 
 use crate::pools::{Pool, Stack, leaves};
 use numbers::faults::{Fault, read, store};
@@ -17,7 +16,7 @@ use std::marker::Model;
 #[derive(Drop)]
 pub struct Forest<'a> {
     pub(crate) n: u16,
-    tops: &'a mut [u16],
+    pub(crate) tops: &'a mut [u16],
     pub(crate) parents: &'a mut [u16],
     pub(crate) bases: &'a mut [u16],
     pub(crate) children: Pool<'a>,
@@ -37,31 +36,6 @@ impl<'a> Model for Forest<'a> {
 }
 
 impl<'a> Forest<'a> {
-    // Each list once: what travels together from here on is this type.
-    pub fn new(
-        n: u16,
-        tops: &'a mut [u16],
-        parents: &'a mut [u16],
-        bases: &'a mut [u16],
-        children: Pool<'a>,
-        ring_ends: Pool<'a>,
-        free: Stack<'a>,
-    ) -> Forest<'a>
-        requires { TreesFit n tops.old parents.old bases.old children.rows ring_ends.rows free.room }
-        ensures lists { result.lists ≡ forest_of tops.old parents.old bases.old children.entry.rows ring_ends.entry.rows free.entry.entries }
-        ensures nodes { result.nodes ≡ n }
-    {
-        Forest {
-            n,
-            tops,
-            parents,
-            bases,
-            children,
-            ring_ends,
-            free,
-        }
-    }
-
     // The outermost group of node v.
     pub fn top(&self, v: Node) -> Result<Group, Fault>
         ensures said { AnswersGroup (at self.now.lists.tops v.0) result }
@@ -93,8 +67,7 @@ impl<'a> Forest<'a> {
         ensures size { self.new.nodes ≡ self.old.nodes }
         ensures kids { self.new.kids ≡ self.old.kids }
     {
-        store(self.tops, v.0, b.0)?;
-        Ok(())
+        store(self.tops, v.0, b.0)
     }
 
     pub fn set_parent(&mut self, b: Group, to: Group) -> Result<(), Fault>
@@ -102,8 +75,7 @@ impl<'a> Forest<'a> {
         ensures size { self.new.nodes ≡ self.old.nodes }
         ensures kids { self.new.kids ≡ self.old.kids }
     {
-        store(self.parents, b.0, to.0)?;
-        Ok(())
+        store(self.parents, b.0, to.0)
     }
 
     pub fn set_base(&mut self, b: Group, v: Node) -> Result<(), Fault>
@@ -111,8 +83,7 @@ impl<'a> Forest<'a> {
         ensures size { self.new.nodes ≡ self.old.nodes }
         ensures kids { self.new.kids ≡ self.old.kids }
     {
-        store(self.bases, b.0, v.0)?;
-        Ok(())
+        store(self.bases, b.0, v.0)
     }
 
     // The children of b, round the ring. Two methods, since the definition has two lists: one with a flag would be no shorter.
@@ -136,8 +107,7 @@ impl<'a> Forest<'a> {
         ensures said { Agrees (leaves_of n out.old.room self.now.lists.children n b.0 out.old.entries) result out.new.entries }
         ensures room { out.new.room ≡ out.old.room }
     {
-        leaves(&self.children, n, n, b.0, out)?;
-        Ok(())
+        leaves(&self.children, n, n, b.0, out)
     }
 
     // The children of group b become these.
@@ -146,8 +116,7 @@ impl<'a> Forest<'a> {
         ensures said { (l : LabellingOf) (q : PairingOf) (at : Progress) → Agrees (put_children b.0 items.now (whole self.old.lists l q at)) result (whole self.new.lists l q at) }
         ensures size { self.new.nodes ≡ self.old.nodes }
     {
-        self.children.set_row(b.0, items)?;
-        Ok(())
+        self.children.set_row(b.0, items)
     }
 
     // The ring ends of group b become these.
@@ -157,8 +126,7 @@ impl<'a> Forest<'a> {
         ensures size { self.new.nodes ≡ self.old.nodes }
         ensures kids { self.new.kids ≡ self.old.kids }
     {
-        self.ring_ends.set_row(b.0, items)?;
-        Ok(())
+        self.ring_ends.set_row(b.0, items)
     }
 
     // Group b has no children any more. Their places are left as they are.
@@ -167,8 +135,7 @@ impl<'a> Forest<'a> {
         ensures size { self.new.nodes ≡ self.old.nodes }
         ensures kids { self.new.kids ≡ self.old.kids }
     {
-        self.children.clear_row(b.0)?;
-        Ok(())
+        self.children.clear_row(b.0)
     }
 
     pub fn clear_ring_ends(&mut self, b: Group) -> Result<(), Fault>
@@ -176,7 +143,6 @@ impl<'a> Forest<'a> {
         ensures size { self.new.nodes ≡ self.old.nodes }
         ensures kids { self.new.kids ≡ self.old.kids }
     {
-        self.ring_ends.clear_row(b.0)?;
-        Ok(())
+        self.ring_ends.clear_row(b.0)
     }
 }

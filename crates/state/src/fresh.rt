@@ -1,8 +1,7 @@
 // Before the first step: the lists are cut from lent lists, which may hold anything.
-ghost use Rattle.std.specs.Prelude.{◌≡◌, ◌++◌, ◌+◌, ◌*◌, ◌-◌, ◌≤◌, [], false, pos, nat_abs, length, replicate};
+ghost use Rattle.std.specs.Prelude.{◌≡◌, ◌++◌, ◌+◌, ◌*◌, ◌-◌, ◌≤◌, pos, nat_abs, length, replicate};
 ghost use Rattle.laws.specs.Lists.{range};
 ghost use Rattle.matching.specs.Graph.{missing, edge_count};
-ghost use Rattle.steps.specs.Ends.{top_weight as top_weight_of};
 ghost use Rattle.steps.specs.State.{start};
 ghost use Rattle.state.specs.Fresh.{fresh_forest, fresh_labelling, fresh_pairing, at_start};
 ghost use Rattle.state.specs.Parts.{state_of, sized, size_of};
@@ -20,9 +19,8 @@ pub fn count_up(list: &mut [u16], from: u16)
     requires { from + length list.old ≤ 65535 }
     ensures { list.new ≡ range from (length list.old) }
 {
-    // By place: writing through an iterator would tell nothing of the entries.
-    for i in 0..list.len() {
-        list[i] = from + i as u16;
+    for (i, x) in list.iter_mut().enumerate() {
+        *x = from + i as u16;
     }
 }
 
@@ -68,10 +66,15 @@ impl<'a> Forest<'a> {
         counts.fill(0);
         end_counts.fill(0);
         count_up(free, nodes);
-        let children = Pool::new(nodes, counts, kids);
-        let ring_ends = Pool::new(nodes, end_counts, ends);
-        let unused = Stack::new(free, nodes);
-        Forest::new(nodes, tops, parents, bases, children, ring_ends, unused)
+        Forest {
+            n: nodes,
+            tops,
+            parents,
+            bases,
+            children: Pool::new(nodes, counts, kids),
+            ring_ends: Pool::new(nodes, end_counts, ends),
+            free: Stack::new(free, nodes),
+        }
     }
 }
 
@@ -97,11 +100,16 @@ impl<'a> Labelling<'a> {
         best.fill(MISSING);
         counts.fill(0);
         allowed.fill(false);
-        let best_lists = Pool::new(nodes, counts, lists);
-        let queue = Stack::new(queued, 0);
-        Labelling::new(
-            nodes, m, labels, label_ends, best, best_lists, allowed, queue,
-        )
+        Labelling {
+            n: nodes,
+            m,
+            labels,
+            label_ends,
+            best,
+            best_lists: Pool::new(nodes, counts, lists),
+            allowed,
+            queue: Stack::new(queued, 0),
+        }
     }
 }
 
@@ -115,7 +123,11 @@ impl<'a> Pairing<'a> {
     {
         mates.fill(MISSING);
         first_duals(duals, nodes as usize, top);
-        Pairing::new(nodes, mates, duals)
+        Pairing {
+            n: nodes,
+            mates,
+            duals,
+        }
     }
 }
 
@@ -138,9 +150,10 @@ impl<'a> Lists<'a> {
         let n = nodes as usize;
         let (mates, rest) = numbers.split_at_mut(n);
         let (trees, labels) = rest.split_at_mut(8 * n + 2 * (n * n));
-        let forest = Forest::fresh(nodes, trees);
-        let labelling = Labelling::fresh(nodes, labels, allowed);
-        let pairing = Pairing::fresh(nodes, g.top_weight(), mates, duals);
-        Lists::new(forest, labelling, pairing)
+        Lists {
+            forest: Forest::fresh(nodes, trees),
+            labelling: Labelling::fresh(nodes, labels, allowed),
+            pairing: Pairing::fresh(nodes, g.top_weight(), mates, duals),
+        }
     }
 }

@@ -1,5 +1,5 @@
 // A group that is taken apart: its children by their places, which stay while the lists change, and its number made free.
-ghost use Rattle.std.specs.Prelude.{ℕ, ◌≡◌, ◌+◌, ◌*◌, ◌-◌, ◌≤◌, ◌<◌, get_or, length};
+ghost use Rattle.std.specs.Prelude.{ℕ, IsOk, ◌≡◌, ◌+◌, ◌*◌, ◌-◌, ◌≤◌, ◌<◌, get_or, length};
 ghost use Rattle.std.specs.Result.{IfOk};
 ghost use Rattle.laws.specs.Run.{at};
 ghost use Rattle.steps.specs.State.{Labelling as LabellingOf, Pairing as PairingOf, Progress};
@@ -19,6 +19,7 @@ impl<'a> Pool<'a> {
     pub fn count(&self, b: u16) -> Result<u16, Fault>
         ensures said { (n : ℕ) → length self.now.rows ≡ 2 * n → Counts n b self.now.places (at self.now.rows b) result }
         ensures inside { (n : ℕ) → length self.now.rows ≡ 2 * n → IfOk result (λ m. (b - n) * n + m ≤ length self.now.places) }
+        ensures there { b < length self.now.rows → IsOk result }
     {
         // The pool's lengths are known only where a field is named.
         let _ = &self.places;
@@ -59,8 +60,7 @@ impl<'a> Forest<'a> {
         ensures size { self.new.nodes ≡ self.old.nodes }
         ensures kids { self.new.kids ≡ self.old.kids }
     {
-        self.free.push(b.0)?;
-        Ok(())
+        self.free.push(b.0)
     }
 }
 
@@ -88,7 +88,6 @@ impl<'a> Lists<'a> {
         ensures size { sized self.new ≡ sized self.old }
         ensures kids { self.new.forest.kids ≡ self.old.forest.kids }
     {
-        self.forest.free_number(b)?;
-        Ok(())
+        self.forest.free_number(b)
     }
 }

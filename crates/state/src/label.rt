@@ -21,8 +21,7 @@ impl<'a> Lists<'a> {
     {
         let b = self.forest.top(w)?;
         self.labelling.mark(w, b, 1, p)?;
-        self.labelling.queue_leaves(&self.forest, g.nodes(), b)?;
-        Ok(())
+        self.labelling.queue_leaves(&self.forest, g.nodes(), b)
     }
 
     // Label 2: the mate of the group's base gets label 1. Apart from label 1, as in the definition: it does more.
@@ -38,7 +37,6 @@ impl<'a> Lists<'a> {
         let m = self.base_mate(b)?;
         present(m.0)?;
         let u = g.endpoint(m)?;
-        self.label_one(g, u, m.beside())?;
-        Ok(())
+        self.label_one(g, u, m.beside())
     }
 }

@@ -1,13 +1,13 @@
 // The labelling of a stage: labels, the ends through which they came, best edges, allowed edges, the queue.
-ghost use Rattle.std.specs.Prelude.{◌≡◌, ◌*◌, ◌≤◌, ◌<◌, [], Bool, length};
+ghost use Rattle.std.specs.Prelude.{◌≡◌, ◌*◌, ◌≤◌, ◌<◌, [], length};
+ghost use Rattle.std.specs.Result.{IfOk};
 ghost use Rattle.laws.specs.Run.{at, pop as pop_of};
 ghost use Rattle.steps.specs.State.{Forest as ForestOf, Pairing as PairingOf, Progress};
 ghost use Rattle.steps.specs.Stores.{put_label, put_label_end, put_best, put_best_list, put_allowed};
 ghost use Rattle.steps.specs.Label.{mark as mark_of, enqueue as enqueue_of};
 ghost use Rattle.numbers.specs.Answers.{Answers, AnswersEnd, AnswersEdge, AnswersRow, RowFits, Agrees, Kept};
-ghost use Rattle.state.specs.Parts.{whole, labelling_of, queued, size_of, with_queue_list};
+ghost use Rattle.state.specs.Parts.{whole, queued, with_queue_list};
 ghost use Rattle.state.specs.Pops.{PopsNode, is_nil};
-ghost use Rattle.state.specs.Views.{LabelsFit};
 
 use crate::forest::Forest;
 use crate::pools::{Pool, Stack};
@@ -40,36 +40,11 @@ impl<'a> Model for Labelling<'a> {
 }
 
 impl<'a> Labelling<'a> {
-    // Each list once: what travels together from here on is this type.
-    pub fn new(
-        n: u16,
-        m: u16,
-        labels: &'a mut [u16],
-        label_ends: &'a mut [u16],
-        best: &'a mut [u16],
-        best_lists: Pool<'a>,
-        allowed: &'a mut [bool],
-        queue: Stack<'a>,
-    ) -> Labelling<'a>
-        requires { LabelsFit n m labels.old label_ends.old best.old best_lists.rows allowed.old queue.room }
-        ensures lists { result.lists ≡ labelling_of labels.old label_ends.old best.old best_lists.entry.rows allowed.old queue.entry.entries }
-        ensures size { result.size ≡ record { nodes = n; edges = m } }
-    {
-        Labelling {
-            n,
-            m,
-            labels,
-            label_ends,
-            best,
-            best_lists,
-            allowed,
-            queue,
-        }
-    }
-
-    // A number, as the definition's list holds it: 0, 1, 2, or missing of a group that was expanded.
+    // The label of a node or group: a number and no enum. The clause is one equation with the definition's list of numbers, where the label of
+    // a group that was expanded is missing, and the scan's copy of that list has marks besides.
     pub fn label(&self, i: u16) -> Result<u16, Fault>
-        ensures { Answers (at self.now.lists.labels i) result }
+        ensures said { Answers (at self.now.lists.labels i) result }
+        ensures near { IfOk result (λ l. i < 2 * self.now.size.nodes) }
     {
         read(self.labels, i)
     }
@@ -106,16 +81,14 @@ impl<'a> Labelling<'a> {
         ensures said { (f : ForestOf) (q : PairingOf) (at : Progress) → Agrees (put_label i t (whole f self.old.lists q at)) result (whole f self.new.lists q at) }
         ensures size { self.new.size ≡ self.old.size }
     {
-        store(self.labels, i, t)?;
-        Ok(())
+        store(self.labels, i, t)
     }
 
     pub fn set_label_end(&mut self, i: u16, p: End) -> Result<(), Fault>
         ensures said { (f : ForestOf) (q : PairingOf) (at : Progress) → Agrees (put_label_end i p.0 (whole f self.old.lists q at)) result (whole f self.new.lists q at) }
         ensures size { self.new.size ≡ self.old.size }
     {
-        store(self.label_ends, i, p.0)?;
-        Ok(())
+        store(self.label_ends, i, p.0)
     }
 
     #[tactic(auto, using(crate::proofs::Unstored::unstored))]
@@ -124,8 +97,7 @@ impl<'a> Labelling<'a> {
         ensures size { self.new.size ≡ self.old.size }
         ensures kept { Kept result self.old self.new }
     {
-        store(self.best, i, e.0)?;
-        Ok(())
+        store(self.best, i, e.0)
     }
 
     // The candidates of group b become these.
@@ -134,8 +106,7 @@ impl<'a> Labelling<'a> {
         ensures said { (f : ForestOf) (q : PairingOf) (at : Progress) → Agrees (put_best_list b.0 items.now (whole f self.old.lists q at)) result (whole f self.new.lists q at) }
         ensures size { self.new.size ≡ self.old.size }
     {
-        self.best_lists.set_row(b.0, items)?;
-        Ok(())
+        self.best_lists.set_row(b.0, items)
     }
 
     // A node or group has no candidates any more.
@@ -143,16 +114,14 @@ impl<'a> Labelling<'a> {
         ensures said { (f : ForestOf) (q : PairingOf) (at : Progress) → Agrees (put_best_list b.0 [] (whole f self.old.lists q at)) result (whole f self.new.lists q at) }
         ensures size { self.new.size ≡ self.old.size }
     {
-        self.best_lists.clear_row(b.0)?;
-        Ok(())
+        self.best_lists.clear_row(b.0)
     }
 
     pub fn set_allowed(&mut self, e: Edge, allowed: bool) -> Result<(), Fault>
         ensures said { (f : ForestOf) (q : PairingOf) (at : Progress) → Agrees (put_allowed e.0 allowed (whole f self.old.lists q at)) result (whole f self.new.lists q at) }
         ensures size { self.new.size ≡ self.old.size }
     {
-        store(self.allowed, e.0, allowed)?;
-        Ok(())
+        store(self.allowed, e.0, allowed)
     }
 
     // The labels into a list of the caller.
@@ -170,8 +139,7 @@ impl<'a> Labelling<'a> {
         ensures said { (f : ForestOf) (q : PairingOf) (at : Progress) → Agrees (enqueue_of g.now v.0 (whole f self.old.lists q at)) result (whole f self.new.lists q at) }
         ensures size { self.new.size ≡ self.old.size }
     {
-        self.queue.push(v.0)?;
-        Ok(())
+        self.queue.push(v.0)
     }
 
     // The nodes of b go on the end of the queue.
@@ -197,8 +165,7 @@ impl<'a> Labelling<'a> {
         store(self.label_ends, b.0, p.0)?;
         store(self.label_ends, w.0, p.0)?;
         store(self.best, w.0, MISSING)?;
-        store(self.best, b.0, MISSING)?;
-        Ok(())
+        store(self.best, b.0, MISSING)
     }
 
     pub fn has_none_queued(&self) -> bool

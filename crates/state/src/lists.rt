@@ -1,5 +1,5 @@
 // The lists of the search in the definition's three parts. A routine above takes them by one reference.
-ghost use Rattle.std.specs.Prelude.{◌≡◌, ◌+◌, ◌*◌, ◌≤◌, ◌<◌, [], nat_abs, length};
+ghost use Rattle.std.specs.Prelude.{◌≡◌, ◌*◌, ◌≤◌, ◌<◌, [], nat_abs, length};
 ghost use Rattle.std.specs.Result.{IfOk};
 ghost use Rattle.laws.specs.Run.{at};
 ghost use Rattle.steps.specs.State.{Progress};
@@ -39,17 +39,6 @@ impl<'a> Model for Lists<'a> {
 }
 
 impl<'a> Lists<'a> {
-    pub fn new(forest: Forest<'a>, labelling: Labelling<'a>, pairing: Pairing<'a>) -> Lists<'a>
-        requires { (forest.nodes ≡ labelling.size.nodes) × (pairing.nodes ≡ labelling.size.nodes) }
-        ensures { result ≡ record { forest = forest.entry; labels = labelling.entry; pairing = pairing.entry } }
-    {
-        Lists {
-            forest,
-            labelling,
-            pairing,
-        }
-    }
-
     // ---- reads
 
     // A method for each list, and none that takes which list: each clause names the definition's list.
@@ -96,7 +85,8 @@ impl<'a> Lists<'a> {
 
     // The label of a node or group.
     pub fn label(&self, i: u16) -> Result<u16, Fault>
-        ensures { Answers (at self.now.labels.lists.labels i) result }
+        ensures said { Answers (at self.now.labels.lists.labels i) result }
+        ensures near { IfOk result (λ l. i < 2 * self.now.labels.size.nodes) }
     {
         self.labelling.label(i)
     }
@@ -164,8 +154,7 @@ impl<'a> Lists<'a> {
         ensures said { Agrees (leaves_of g.now.nodes out.old.room self.now.forest.lists.children g.now.nodes b.0 out.old.entries) result out.new.entries }
         ensures room { out.new.room ≡ out.old.room }
     {
-        self.forest.leaves(g.nodes(), b, out)?;
-        Ok(())
+        self.forest.leaves(g.nodes(), b, out)
     }
 
     // The mate of a group's base, which may be missing.
@@ -185,8 +174,7 @@ impl<'a> Lists<'a> {
         ensures size { sized self.new ≡ sized self.old }
         ensures kids { self.new.forest.kids ≡ self.old.forest.kids }
     {
-        self.forest.set_top(v, b)?;
-        Ok(())
+        self.forest.set_top(v, b)
     }
 
     pub fn put_parent(&mut self, b: Group, to: Group) -> Result<(), Fault>
@@ -194,8 +182,7 @@ impl<'a> Lists<'a> {
         ensures size { sized self.new ≡ sized self.old }
         ensures kids { self.new.forest.kids ≡ self.old.forest.kids }
     {
-        self.forest.set_parent(b, to)?;
-        Ok(())
+        self.forest.set_parent(b, to)
     }
 
     pub fn put_base(&mut self, b: Group, v: Node) -> Result<(), Fault>
@@ -203,8 +190,7 @@ impl<'a> Lists<'a> {
         ensures size { sized self.new ≡ sized self.old }
         ensures kids { self.new.forest.kids ≡ self.old.forest.kids }
     {
-        self.forest.set_base(b, v)?;
-        Ok(())
+        self.forest.set_base(b, v)
     }
 
     // The children of group b become these.
@@ -213,8 +199,7 @@ impl<'a> Lists<'a> {
         ensures said { (at : Progress) → Agrees (put_children b.0 items.now (state_of self.old at)) result (state_of self.new at) }
         ensures size { sized self.new ≡ sized self.old }
     {
-        self.forest.set_children(b, items)?;
-        Ok(())
+        self.forest.set_children(b, items)
     }
 
     // The ring ends of group b become these.
@@ -224,8 +209,7 @@ impl<'a> Lists<'a> {
         ensures size { sized self.new ≡ sized self.old }
         ensures kids { self.new.forest.kids ≡ self.old.forest.kids }
     {
-        self.forest.set_ring_ends(b, items)?;
-        Ok(())
+        self.forest.set_ring_ends(b, items)
     }
 
     // Group b has no children any more.
@@ -234,8 +218,7 @@ impl<'a> Lists<'a> {
         ensures size { sized self.new ≡ sized self.old }
         ensures kids { self.new.forest.kids ≡ self.old.forest.kids }
     {
-        self.forest.clear_children(b)?;
-        Ok(())
+        self.forest.clear_children(b)
     }
 
     pub fn clear_ring_ends(&mut self, b: Group) -> Result<(), Fault>
@@ -243,8 +226,7 @@ impl<'a> Lists<'a> {
         ensures size { sized self.new ≡ sized self.old }
         ensures kids { self.new.forest.kids ≡ self.old.forest.kids }
     {
-        self.forest.clear_ring_ends(b)?;
-        Ok(())
+        self.forest.clear_ring_ends(b)
     }
 
     pub fn put_label(&mut self, i: u16, t: u16) -> Result<(), Fault>
@@ -252,8 +234,7 @@ impl<'a> Lists<'a> {
         ensures size { sized self.new ≡ sized self.old }
         ensures kids { self.new.forest.kids ≡ self.old.forest.kids }
     {
-        self.labelling.set_label(i, t)?;
-        Ok(())
+        self.labelling.set_label(i, t)
     }
 
     pub fn put_label_end(&mut self, i: u16, p: End) -> Result<(), Fault>
@@ -261,8 +242,7 @@ impl<'a> Lists<'a> {
         ensures size { sized self.new ≡ sized self.old }
         ensures kids { self.new.forest.kids ≡ self.old.forest.kids }
     {
-        self.labelling.set_label_end(i, p)?;
-        Ok(())
+        self.labelling.set_label_end(i, p)
     }
 
     pub fn put_best(&mut self, i: u16, e: Edge) -> Result<(), Fault>
@@ -271,8 +251,7 @@ impl<'a> Lists<'a> {
         ensures kept { Kept result self.old self.new }
         ensures kids { self.new.forest.kids ≡ self.old.forest.kids }
     {
-        self.labelling.set_best(i, e)?;
-        Ok(())
+        self.labelling.set_best(i, e)
     }
 
     // The candidates of group b become these.
@@ -282,8 +261,7 @@ impl<'a> Lists<'a> {
         ensures size { sized self.new ≡ sized self.old }
         ensures kids { self.new.forest.kids ≡ self.old.forest.kids }
     {
-        self.labelling.set_best_list(b, items)?;
-        Ok(())
+        self.labelling.set_best_list(b, items)
     }
 
     // A node or group has no candidates any more.
@@ -292,8 +270,7 @@ impl<'a> Lists<'a> {
         ensures size { sized self.new ≡ sized self.old }
         ensures kids { self.new.forest.kids ≡ self.old.forest.kids }
     {
-        self.labelling.clear_best_list(b)?;
-        Ok(())
+        self.labelling.clear_best_list(b)
     }
 
     pub fn put_allowed(&mut self, e: Edge, allowed: bool) -> Result<(), Fault>
@@ -301,8 +278,7 @@ impl<'a> Lists<'a> {
         ensures size { sized self.new ≡ sized self.old }
         ensures kids { self.new.forest.kids ≡ self.old.forest.kids }
     {
-        self.labelling.set_allowed(e, allowed)?;
-        Ok(())
+        self.labelling.set_allowed(e, allowed)
     }
 
     pub fn put_mate(&mut self, v: Node, p: End) -> Result<(), Fault>
@@ -310,8 +286,7 @@ impl<'a> Lists<'a> {
         ensures size { sized self.new ≡ sized self.old }
         ensures kids { self.new.forest.kids ≡ self.old.forest.kids }
     {
-        self.pairing.set_mate(v, p)?;
-        Ok(())
+        self.pairing.set_mate(v, p)
     }
 
     // The dual of a node or group becomes d, which is within 2^52 of zero.
@@ -321,8 +296,7 @@ impl<'a> Lists<'a> {
         ensures size { sized self.new ≡ sized self.old }
         ensures kids { self.new.forest.kids ≡ self.old.forest.kids }
     {
-        self.pairing.set_dual(i, d)?;
-        Ok(())
+        self.pairing.set_dual(i, d)
     }
 
     // Node v goes on the end of the queue, which holds at most 2n.
@@ -332,7 +306,6 @@ impl<'a> Lists<'a> {
         ensures size { sized self.new ≡ sized self.old }
         ensures kids { self.new.forest.kids ≡ self.old.forest.kids }
     {
-        self.labelling.enqueue(g, v)?;
-        Ok(())
+        self.labelling.enqueue(g, v)
     }
 }

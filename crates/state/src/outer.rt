@@ -1,5 +1,5 @@
 // Outermost groups. For a number of no group one read tells.
-ghost use Rattle.std.specs.Prelude.{◌≡◌, ◌*◌, ◌<◌, get_or, pos};
+ghost use Rattle.std.specs.Prelude.{◌≡◌, ◌*◌, ◌<◌, IsOk, get_or, pos};
 ghost use Rattle.std.specs.Result.{IfOk};
 ghost use Rattle.laws.specs.Run.{ok, at as at_of};
 ghost use Rattle.steps.specs.State.{Labelling as LabellingOf, Pairing as PairingOf, Progress};
@@ -20,6 +20,7 @@ impl<'a> Forest<'a> {
     pub fn is_outermost(&self, b: Group) -> Result<bool, Fault>
         ensures said { (l : LabellingOf) (q : PairingOf) (at : Progress) → Answers (is_outermost_of (whole self.now.lists l q at) b.0) result }
         ensures near { IfOk result (λ o. b.0 < 2 * self.now.nodes) }
+        ensures there { b.0 < 2 * self.now.nodes → IsOk result }
     {
         let base = read(self.bases, b.0)?;
         if base == MISSING {
@@ -57,6 +58,7 @@ impl<'a> Lists<'a> {
     pub fn is_outermost(&self, b: Group) -> Result<bool, Fault>
         ensures said { (at : Progress) → Answers (is_outermost_of (state_of self.now at) b.0) result }
         ensures stands { IfOk result (λ o. Stands self.now b.0) }
+        ensures there { b.0 < 2 * self.now.labels.size.nodes → IsOk result }
     {
         let outermost = self.forest.is_outermost(b)?;
         self.labelling.holds(b);

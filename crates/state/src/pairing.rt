@@ -7,7 +7,6 @@ ghost use Rattle.steps.specs.Stores.{put_mate, put_dual};
 ghost use Rattle.steps.specs.Ends.{slack_of, tighter as tighter_of};
 ghost use Rattle.numbers.specs.Answers.{Answers, AnswersEnd, Agrees};
 ghost use Rattle.state.specs.Parts.{whole};
-ghost use Rattle.state.specs.Views.{PairsFit};
 
 use edges::graph::Graph;
 use numbers::faults::{Fault, read, store};
@@ -33,14 +32,6 @@ impl<'a> Model for Pairing<'a> {
 }
 
 impl<'a> Pairing<'a> {
-    pub fn new(n: u16, mates: &'a mut [u16], duals: &'a mut [i64]) -> Pairing<'a>
-        requires { PairsFit n mates.old duals.old }
-        ensures lists { result.lists ≡ record { mates = mates.old; duals = duals.old } }
-        ensures nodes { result.nodes ≡ n }
-    {
-        Pairing { n, mates, duals }
-    }
-
     // The end at the mate of node v, which may be missing.
     pub fn mate(&self, v: Node) -> Result<End, Fault>
         ensures { AnswersEnd (at self.now.lists.mates v.0) result }
@@ -61,8 +52,7 @@ impl<'a> Pairing<'a> {
         ensures said { (f : ForestOf) (l : LabellingOf) (at : Progress) → Agrees (put_mate v.0 p.0 (whole f l self.old.lists at)) result (whole f l self.new.lists at) }
         ensures size { self.new.nodes ≡ self.old.nodes }
     {
-        store(self.mates, v.0, p.0)?;
-        Ok(())
+        store(self.mates, v.0, p.0)
     }
 
     pub fn set_dual(&mut self, i: u16, d: i64) -> Result<(), Fault>
@@ -70,8 +60,7 @@ impl<'a> Pairing<'a> {
         ensures said { (f : ForestOf) (l : LabellingOf) (at : Progress) → Agrees (put_dual i d (whole f l self.old.lists at)) result (whole f l self.new.lists at) }
         ensures size { self.new.nodes ≡ self.old.nodes }
     {
-        store(self.duals, i, d)?;
-        Ok(())
+        store(self.duals, i, d)
     }
 
     // The two duals at edge e less twice its weight.

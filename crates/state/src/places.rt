@@ -8,8 +8,8 @@ ghost use Rattle.numbers.specs.Answers.{Answers, AnswersEnd};
 use numbers::faults::{Fault, read};
 use numbers::{End, Group};
 
-// The next place of len: forward from an odd start, backward from an even one. Place j may be past the last: a walk comes to it where
-// the ring has changed.
+// The next place of len: forward from an odd start, backward from an even one; `forward` is the definition's own parameter. Place j may be
+// past the last: a walk comes to it where the ring has changed.
 #[tactic(auto, unfolding(steps::specs::Ring::around))]
 pub fn around(forward: bool, len: u16, j: u16) -> u16
     requires { j < 65535 }
@@ -22,7 +22,7 @@ pub fn around(forward: bool, len: u16, j: u16) -> u16
     }
 }
 
-// The ring end that is used at place i, seen in the direction of the walk.
+// The ring end that is used at place i, seen in the direction of the walk: the definition's parameter as well.
 #[tactic(auto, unfolding(steps::specs::Ring::link_end))]
 pub fn link_end(forward: bool, ends: &[u16], i: u16) -> Result<End, Fault>
     ensures { AnswersEnd (link_end_of forward ends.now i) result }
@@ -45,12 +45,6 @@ pub fn place_of(kids: &[u16], t: Group) -> Result<u16, Fault>
     ensures said { Answers (position t.0 kids.now) result }
     ensures near { IfOk result (λ i. i < length kids.now) }
 {
-    let mut i = 0;
-    for &kid in kids {
-        if kid == t.0 {
-            return Ok(i);
-        }
-        i += 1;
-    }
-    Err(Fault)
+    let i = kids.iter().position(|&kid| kid == t.0).ok_or(Fault)?;
+    Ok(i as u16)
 }

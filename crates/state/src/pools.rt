@@ -1,5 +1,5 @@
 // Lists with a count: a stack, and the rows of a pool.
-ghost use Rattle.std.specs.Prelude.{ℕ, List, ◌≡◌, ◌≤◌, ◌<◌, ◌+◌, ◌*◌, ◌++◌, [], length, take, drop};
+ghost use Rattle.std.specs.Prelude.{ℕ, List, IsOk, ◌≡◌, ◌≤◌, ◌<◌, ◌+◌, ◌*◌, ◌++◌, [], length, take, drop};
 ghost use Rattle.laws.specs.Run.{ok, at, put, push as push_of, pop as pop_of};
 ghost use Rattle.numbers.specs.Pools.{pooled, PoolFits};
 ghost use Rattle.steps.specs.Ring.{rotate};
@@ -7,7 +7,6 @@ ghost use Rattle.steps.specs.Leaves.{leaves as leaves_of};
 ghost use Rattle.numbers.specs.Answers.{AnswersRow, RowFits, Agrees};
 ghost use Rattle.state.specs.Pops.{Pops, is_nil};
 
-use numbers::Group;
 use numbers::faults::Fault;
 use std::marker::Model;
 
@@ -176,6 +175,7 @@ impl<'a> Pool<'a> {
     pub fn row(&self, b: u16) -> Result<&[u16], Fault>
         ensures said { AnswersRow (at self.now.rows b) result }
         ensures fits { RowFits result }
+        ensures there { b < length self.now.rows → IsOk result }
     {
         if b < self.n {
             return Ok(&[]);

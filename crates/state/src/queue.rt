@@ -6,7 +6,6 @@ ghost use Rattle.steps.specs.Stores.{with_queue};
 ghost use Rattle.state.specs.Parts.{state_of, sized};
 ghost use Rattle.state.specs.Pops.{PopsNode, is_nil};
 
-use crate::labelling::Labelling;
 use crate::lists::Lists;
 use numbers::Node;
 use numbers::faults::Fault;
@@ -23,7 +22,6 @@ impl<'a> Lists<'a> {
         ensures rest { (at : Progress) → state_of self.new at ≡ with_queue self.new.labels.lists.queue (state_of self.old at) }
         ensures size { sized self.new ≡ sized self.old }
     {
-        let v = self.labelling.take_queued()?;
-        Ok(v)
+        self.labelling.take_queued()
     }
 }

@@ -1,60 +1,68 @@
-// A walk back from two nodes by turns. The first group met twice ends it, and its base is the answer; else missing.
+// A walk back from two nodes by turns. The first group met twice ends it, and its base is the answer; else none.
 // The groups that the walk has passed are marked in a copy of the labels, so the labels need no restoring.
-ghost use Rattle.std.specs.Prelude.{if◌then◌else◌, ◌≡◌, ◌*◌, false, length};
+ghost use Rattle.std.specs.Prelude.{if◌then◌else◌, ◌≡◌, ◌*◌, None, length};
+ghost use Rattle.std.specs.Option.{is_some};
 ghost use Rattle.matching.specs.Graph.{missing, is_missing};
 ghost use Rattle.steps.specs.State.{Progress};
-ghost use Rattle.steps.specs.Scan.{over_label2, step_back as step_back_of, pass_on as pass_on_of, walk_move as walk_move_of, scan as scan_of};
+ghost use Rattle.steps.specs.Scan.{is_mark, over_label2, step_back as step_back_of, pass_on as pass_on_of, walk_move as walk_move_of, scan as scan_of};
 ghost use Rattle.numbers.specs.Answers.{AnswersNode};
 ghost use Rattle.state.specs.Parts.{state_of};
-ghost use Rattle.state.specs.Walks.{walk_of, stopped, Walks};
+ghost use Rattle.state.specs.Walks.{AnswersBase, Bases, walk_of, stopped, Walks};
 
 use crate::lists::Lists;
 use edges::graph::Graph;
 use numbers::faults::{Fault, must, present, read, store};
 use numbers::{End, Group, MISSING, Node};
 
-// The two places of a walk, of which v moves next, and the base where a mark is met. A flag beside them, as in the definition's record.
-#[derive(Clone, Copy)]
+// What the label of a group has besides where the walk has passed it.
+const MARK: u16 = 4;
+
+// A label has the mark; a missing one counts as marked.
+fn is_marked(l: u16) -> bool
+    ensures { result ≡ is_mark l }
+{
+    l == MISSING || l / MARK % 2 == 1
+}
+
+// The two places of a walk, of which v moves next, and the base where a mark is met.
+#[derive(Clone, Copy, Debug, PartialEq, Eq)]
 pub struct Walk {
     pub v: Node,
     pub w: Node,
-    pub met: bool,
-    pub base: Node,
+    pub met: Option<Node>,
 }
 
 // A mark is met, or both paths have ended.
 fn ended(k: Walk) -> bool
-    ensures { result ≡ stopped k.met k.v.0 k.w.0 }
+    ensures { result ≡ stopped (is_some k.met) k.v.0 k.w.0 }
 {
-    if k.met {
-        true
-    } else if k.v.0 == MISSING {
-        k.w.0 == MISSING
-    } else {
-        false
-    }
+    k.met.is_some() || (k.v.is_missing() && k.w.is_missing())
+}
+
+// The base that the walk has met, where it is not missing.
+fn base_met(k: Walk) -> Option<Node>
+    ensures { Bases k.met result }
+{
+    k.met.filter(|base| !base.is_missing())
 }
 
 // The walk after a step back to x: the other path has the next turn unless it has ended.
 fn next_turn(w: Node, x: Node) -> Walk
     ensures v { result.v.0 ≡ (if is_missing w.0 then x.0 else w.0) }
     ensures w { result.w.0 ≡ (if is_missing w.0 then missing else x.0) }
-    ensures none { (result.met ≡ false) × (result.base.0 ≡ missing) }
+    ensures none { result.met ≡ None }
 {
-    let base = Node(MISSING);
-    if w.0 == MISSING {
+    if w.is_missing() {
         Walk {
             v: x,
-            w: base,
-            met: false,
-            base,
+            w: Node::missing(),
+            met: None,
         }
     } else {
         Walk {
             v: w,
             w: x,
-            met: false,
-            base,
+            met: None,
         }
     }
 }
@@ -81,12 +89,11 @@ impl<'a> Lists<'a> {
     {
         let e = self.labelling.label_end(b)?;
         let m = self.base_mate(b)?;
-        must(e.0 == m.0)?;
-        if e.0 == MISSING {
-            return Ok(Node(MISSING));
+        must(e == m)?;
+        if e.is_missing() {
+            return Ok(Node::missing());
         }
-        let v = self.over_label_two(g, marks, e)?;
-        Ok(v)
+        self.over_label_two(g, marks, e)
     }
 
     // Group b is marked, and its path goes one step back.
@@ -96,7 +103,7 @@ impl<'a> Lists<'a> {
     {
         let l = read(marks, b.0)?;
         must(l == 1)?;
-        store(marks, b.0, 5)?;
+        store(marks, b.0, 1 + MARK)?;
         let x = self.step_back(g, marks, b)?;
         Ok(next_turn(k.w, x))
     }
@@ -109,44 +116,42 @@ impl<'a> Lists<'a> {
         present(k.v.0)?;
         let b = self.forest.top(k.v)?;
         let l = read(marks, b.0)?;
-        if l == MISSING || l / 4 % 2 == 1 {
+        if is_marked(l) {
             let base = self.forest.base(b)?;
             return Ok(Walk {
                 v: k.v,
                 w: k.w,
-                met: true,
-                base,
+                met: Some(base),
             });
         }
-        let next = self.pass_on(g, marks, b, k)?;
-        Ok(next)
+        self.pass_on(g, marks, b, k)
     }
 
-    // The base where the paths from a and from b meet, or missing; at most 2n turns. Marks is room for a copy of the labels.
+    // The base where the paths from a and from b meet, if they do; at most 2n turns. Marks is room for a copy of the labels.
     #[tactic(auto, using(crate::proofs::ScanLaws::scan_turns), unfolding(steps::specs::Scan::scan))]
-    pub fn scan(&self, g: &Graph, marks: &mut [u16], a: Node, b: Node) -> Result<Node, Fault>
+    pub fn scan(
+        &self,
+        g: &Graph,
+        marks: &mut [u16],
+        a: Node,
+        b: Node,
+    ) -> Result<Option<Node>, Fault>
         requires { length marks.old ≡ 2 * self.now.labels.size.nodes }
-        ensures { (at : Progress) → AnswersNode (scan_of g.now a.0 b.0 (state_of self.now at)) result }
+        ensures { (at : Progress) → AnswersBase (scan_of g.now a.0 b.0 (state_of self.now at)) result }
     {
         self.labelling.copy_labels(marks);
         let mut k = Walk {
             v: a,
             w: b,
-            met: false,
-            base: Node(MISSING),
+            met: None,
         };
-        // A limit of turns and no range: the test comes once more than the turns, and a meeting ends the walk at once.
-        let mut left = g.numbers();
-        loop {
+        for _ in 0..g.numbers() {
             if ended(k) {
-                break;
+                return Ok(base_met(k));
             }
-            if left == 0 {
-                return Err(Fault);
-            }
-            left -= 1;
             k = self.walk_move(g, marks, k)?;
         }
-        Ok(k.base)
+        must(ended(k))?;
+        Ok(base_met(k))
     }
 }

@@ -13,7 +13,8 @@ use Rattle.laws.specs.Lists.{Each}
 use Rattle.laws.proofs.Decides.{equal, less, at_most, either}
 use Rattle.laws.proofs.Lists.{each_at}
 use Rattle.matching.specs.Graph.{Edge, edge, graph_of, first_of, second_of, WellFormed}
-use Rattle.steps.specs.Refusals.{max_nodes, max_edges, max_weight, Refusal, NODES, EDGES, BUFFER, END, LOOP, WEIGHT, Intake, fine, refused, Room, edge_intake, or_else, edges_intake, too_short, intake}
+use Rattle.steps.specs.Refusals.{max_nodes, max_edges, max_weight, Refusal, NODES, EDGES, BUFFER, END, LOOP, WEIGHT, Intake, fine, refused, Room}
+use Rattle.steps.specs.Refusals.{edge_intake, or_else, edges_intake, too_short, intake}
 
 pub record AcceptedEdge (n : ℕ) (x : Edge) : Type 0 where
   pub first_node : x.first < n

@@ -11,7 +11,8 @@ use lib.ListN.{length, get_or}
 use Rattle.laws.specs.Run.{Run, must, at, put, position}
 use Rattle.laws.proofs.Times.{times_at}
 use Rattle.laws.proofs.Kept.{Kept, kept, kept_bind, kept_at}
-use Rattle.laws.proofs.Keeping.{skip, load, holding, kept_known, Agree, agree, both_torn, agree_of, agree_bind, agree_skip, agree_either, agree_only_if, agree_while}
+use Rattle.laws.proofs.Keeping.{skip, load, holding, kept_known, Agree, agree, both_torn, agree_of, agree_bind, agree_skip, agree_either}
+use Rattle.laws.proofs.Keeping.{agree_only_if, agree_while}
 use Rattle.matching.specs.Graph.{Graph, missing, is_missing, is_group, is_odd, beside}
 use Rattle.matching.specs.Certificate.{MateHolds}
 use Rattle.matching.specs.Tests.{mates_pass}
@@ -21,7 +22,8 @@ use Rattle.steps.specs.State.{State}
 use Rattle.steps.specs.Stores.{put_mate}
 use Rattle.steps.specs.Label.{base_mate}
 use Rattle.steps.specs.Ring.{around, link_end}
-use Rattle.steps.specs.Augment.{climb_goes, child_holding, Turning, turning_goes, match_end, turn_child, turning_move, turn_group, augment_group, augment_top, Trail, trail_goes, Reached, through_label1, through_label2, trail_move, match_trail, augment_matching}
+use Rattle.steps.specs.Augment.{climb_goes, child_holding, Turning, turning_goes, match_end, turn_child, turning_move, turn_group, augment_group}
+use Rattle.steps.specs.Augment.{augment_top, Trail, trail_goes, Reached, through_label1, through_label2, trail_move, match_trail, augment_matching}
 use Rattle.steps.specs.Standing.{children_of}
 use Rattle.steps.proofs.Turning.{Firm, never_child, rerooted}
 

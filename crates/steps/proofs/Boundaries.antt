@@ -34,7 +34,8 @@ asked =
     told (intake 2 (many 2047 (edge 1 0 (pos 0))) (exactly 2)) ∷ told (intake 2 (many 2048 (edge 1 0 (pos 0))) (exactly 2)) ∷
     told (intake 4 [] (room 4 8 8)) ∷ told (intake 4 [] (room 3 8 8)) ∷ told (intake 4 [] (room 4 7 8)) ∷ told (intake 4 [] (room 4 8 7)) ∷
     told (intake 65 (many 2048 beyond) (room 0 0 0)) ∷ told (intake 4 (many 2048 beyond) (room 0 0 0)) ∷ told (intake 4 (beyond ∷ []) (room 0 0 0)) ∷
-    told (intake 4 (many 2 (edge 3 0 (pos 1))) (exactly 4)) ∷ told (intake 4 (many 2 (edge 4 0 (pos 1))) (exactly 4)) ∷ told (intake 4 (many 3 (edge 0 4 (pos 1))) (exactly 4)) ∷
+    told (intake 4 (many 2 (edge 3 0 (pos 1))) (exactly 4)) ∷ told (intake 4 (many 2 (edge 4 0 (pos 1))) (exactly 4)) ∷
+    told (intake 4 (many 3 (edge 0 4 (pos 1))) (exactly 4)) ∷
     told (intake 4 (many 2 beyond) (exactly 4)) ∷ told (intake 4 (many 2 loop) (exactly 4)) ∷
     told (intake 4 (many 1 (edge 0 1 (pos 1_000_000_000))) (exactly 4)) ∷ told (intake 4 (many 1 (edge 0 1 (pos 1_000_000_001))) (exactly 4)) ∷
     told (intake 4 (many 1 (edge 0 1 (negsuc 999_999_999))) (exactly 4)) ∷ told (intake 4 (many 1 (edge 0 1 (negsuc 1_000_000_000))) (exactly 4)) ∷

@@ -19,7 +19,8 @@ use Rattle.matching.proofs.Decided.{yes_optimal}
 use Rattle.matching.proofs.Pairs.{pairs_matching}
 use Rattle.steps.specs.State.{start}
 use Rattle.steps.specs.Refusals.{Intake, fine, refused, Room, intake}
-use Rattle.steps.specs.Plan.{Answer, DONE, STEPS, FAULT, REFUSED, Ending, finished, spent, broken, run, Plan, cleared, filled, certificate_of, certified, plan_end, plan_fine, plan_after, plan}
+use Rattle.steps.specs.Plan.{Answer, DONE, STEPS, FAULT, REFUSED, Ending, finished, spent, broken, run, Plan, cleared, filled, certificate_of}
+use Rattle.steps.specs.Plan.{certified, plan_end, plan_fine, plan_after, plan}
 use Rattle.steps.proofs.Accepted.{accepted, accepted_well_formed}
 
 IsDone : Answer → Type 0
@@ -46,7 +47,8 @@ no_edges_optimal : (n : ℕ) (flag : Bool) (mates : List ℕ) → Optimal (graph
 unfolding pairs keep range
 no_edges_optimal n flag mates = record { is_matching = pairs_matching (graph_of n []) mates; is_best = best }
   where
-    best : (L : List ℕ) → Matching (graph_of n []) L → (T flag → length (pairs (graph_of n []) mates) ≤ length L) → weight (graph_of n []) L ≤ℤ weight (graph_of n []) (pairs (graph_of n []) mates)
+    best : (L : List ℕ) → Matching (graph_of n []) L → (T flag → length (pairs (graph_of n []) mates) ≤ length L)
+        → weight (graph_of n []) L ≤ℤ weight (graph_of n []) (pairs (graph_of n []) mates)
     best [] m h = ≤ℤ_refl (weight (graph_of n []) [])
     best (e ∷ es) m h = let no_way : ⊥ = omega (arith, m.known.0) in absurd no_way
 

@@ -12,24 +12,21 @@ use Rattle.laws.specs.Integers.{is_zero}
 use Rattle.laws.specs.Times.{times}
 use Rattle.laws.specs.Run.{Run, at}
 use Rattle.laws.proofs.Times.{same_or_not, less_or_not, times_here}
-use Rattle.laws.proofs.Kept.{Kept, kept, kept_bind, kept_map}
-use Rattle.laws.proofs.Keeping.{skip, store, stored, either_way}
+use Rattle.laws.proofs.Kept.{Kept, kept, kept_map}
+use Rattle.laws.proofs.Keeping.{store, Agree, agree_of, agree_map, agree_bind, agree_skip, agree_stored, agree_either}
 use Rattle.matching.specs.Graph.{Graph, missing}
 use Rattle.matching.specs.Certificate.{parent_of}
 use Rattle.steps.specs.State.{Forest, State}
 use Rattle.steps.specs.Stores.{with_parents, with_tops}
 use Rattle.steps.specs.Expand.{bring_top, keep_child, free_group, free_child}
-use Rattle.steps.specs.Standing.{top_of, parent, children_of, IsGroup}
+use Rattle.steps.specs.Listed as listed
+use Rattle.steps.specs.Standing.{top_of, parent, children_of, IsGroup, Free, FirstFree}
 use Rattle.steps.proofs.Climbing.{Within, parent_same, parent_other, freed_within, last_move}
 use Rattle.steps.proofs.Frames.{Of}
-use Rattle.steps.proofs.Ground.{Upmost, Placed, Pending, Used, Unused, Held, Ground, Or, held_number, held_used, is_known, node_childless}
+use Rattle.steps.proofs.Ground.{Upmost, Placed, Pending, Used, Held, Ground, Or, held_number, held_used, is_known, node_childless}
 use Rattle.steps.proofs.Nodes.{nodes_listed, Stamping, Stamped, stamp, stamp_all, stamp_end, child_shut}
 
 -- ---- what is known before and after
-
--- n is the first of the free numbers
-abbrev pub FirstFree : ℕ → Forest → Type 0
-FirstFree n F = (l : List ℕ) × (F.free ≡ n ∷ l)
 
 -- each parent is as it was, or it was no open group and is forgotten
 abbrev pub Frees : (ℕ → Type 0) → (ps qs : List ℕ) → Type 0
@@ -116,9 +113,10 @@ module _ {n : ℕ} {O D : ℕ → Type 0} {F : Forest} (fits : 2 * n ≤ missing
     below = below_now;
     open_top = λ x o. ((g.open_top x o).0, upmost_now x (g.open_top x o).1);
     placed = placed_now;
+    pending_top = λ d o. ⊎_elim (λ o. still_missing d (g.pending_top d o)) (λ q. ap (parent (freed c F)) q ∙ freed_parent) o;
   }
     where
-      number_now : (x : ℕ) → IsGroup n x → Used (freed c F) x ⊎ Unused (freed c F) x
+      number_now : (x : ℕ) → IsGroup n x → Used (freed c F) x ⊎ Free (freed c F) x
       number_now x k = ⊎_elim (λ h. inl h) (λ h. inr
           (record { no_base = h.no_base; once_free = h.once_free; no_children = h.no_children; no_parent = still_missing x h.no_parent })) (g.number x k)
 
@@ -179,12 +177,12 @@ module _ {O D : ℕ → Type 0} (G : Graph) (fits : 2 * G.nodes ≤ missing) whe
 
   group_kept : (c : ℕ) (ms : List ℕ) (s : State) → ¬ (O c) → Ground G.nodes O (Or D c) s.forest → Upmost G.nodes s.forest c
       → FirstFree G.nodes s.forest → s.pairing.mates ≡ ms
-      → Kept (Of (Opened G.nodes O D s.forest.parents ms)) (keep_child G c s)
-  unfolding keep_child bring_top
-  group_kept c ms s shut g u f m = kept_bind (nodes_listed G s fits g c shut) (λ vs h.
+      → Agree (Of (Opened G.nodes O D s.forest.parents ms)) (listed.keep_child G c s) (keep_child G c s)
+  unfolding listed.keep_child keep_child bring_top
+  group_kept c ms s shut g u f m = agree_bind (nodes_listed G s fits g c shut) (λ vs h. agree_of (
       kept_map (λ t k. stamped_opened f.0 f.1 (stamp_end k))
       (stamp_all {ps = s.forest.parents} {fr = s.forest.free} {ms = ms} {d = c} (bring_top c) bring vs s h.are_inside
-      (record { ground = g; upmost = u; parents_same = refl; free_same = refl; mates_same = m; to_come = λ x l w. inr (h.are_all x l w) })))
+      (record { ground = g; upmost = u; parents_same = refl; free_same = refl; mates_same = m; to_come = λ x l w. inr (h.are_all x l w) }))))
     where
       bring : (v : ℕ) (rest : List ℕ) (t : State) → (v < G.nodes) × Within s.forest.parents v c
           → Of (Stamping G.nodes O D s.forest.parents s.forest.free ms c (v ∷ rest)) t
@@ -193,24 +191,25 @@ module _ {O D : ℕ → Type 0} (G : Graph) (fits : 2 * G.nodes ≤ missing) whe
 
   -- ---- the whole
 
-  module _ (sub : ℕ → State → Run State) (ms : List ℕ)
-      (below : (c : ℕ) (s : State) → Of (Ready G.nodes O D c ms) s → Kept (Of (Opened G.nodes O D s.forest.parents ms)) (sub c s)) where
+  module _ (sub sub' : ℕ → State → Run State) (ms : List ℕ)
+      (below : (c : ℕ) (s : State) → Of (Ready G.nodes O D c ms) s → Agree (Of (Opened G.nodes O D s.forest.parents ms)) (sub c s) (sub' c s)) where
     group_freed : (last : Bool) (c : ℕ) (s : State) → G.nodes ≤ c → ¬ (O c) → Ground G.nodes O (Or D c) s.forest
         → Upmost G.nodes s.forest c → FirstFree G.nodes s.forest → s.pairing.mates ≡ ms
-        → Kept (Of (Opened G.nodes O D s.forest.parents ms)) (free_group G sub last c s)
-    unfolding free_group
-    group_freed true c s l shut g u f m = skip (at s.pairing.duals c) _ (λ d. either_way (is_zero d) _ _
+        → Agree (Of (Opened G.nodes O D s.forest.parents ms)) (listed.free_group G sub last c s) (free_group G sub' last c s)
+    unfolding listed.free_group free_group
+    group_freed true c s l shut g u f m = agree_skip (at s.pairing.duals c) _ _ (λ d. agree_either (is_zero d) _ _ _ _
         (λ t. below c s (record { ground = g; group = (l, u.is_number); upmost = u; shut = shut; first = f; mates_same = m }))
         (λ t. group_kept c ms s shut g u f m))
     group_freed false c s l shut g u f m = group_kept c ms s shut g u f m
 
     pub child_freed : (last : Bool) (b c : ℕ) (s : State) → O b → parent s.forest c ≡ b → Ground G.nodes O D s.forest
         → FirstFree G.nodes s.forest → s.pairing.mates ≡ ms
-        → Kept (Of (Freed G.nodes O D c s.forest.parents ms)) (free_child G sub last c s)
-    unfolding free_child
-    child_freed last b c s o e g f m = stored s.forest.parents c missing (λ l. with_parents l s) _ (λ l. kept_map now (either_way (ltb c G.nodes) _ _
-        (λ t. store s.forest.tops c c _ (λ l. kept (node_kept c ms s' (ltb→lt c G.nodes t) (freed_ground fits g b c o e)
-        (child_upmost fits g b c o e) f m)))
+        → Agree (Of (Freed G.nodes O D c s.forest.parents ms)) (listed.free_child G sub last c s) (free_child G sub' last c s)
+    unfolding listed.free_child free_child
+    child_freed last b c s o e g f m = agree_stored s.forest.parents c missing (λ l. with_parents l s) _ _ (λ l. agree_map now
+        (agree_either (ltb c G.nodes) _ _ _ _
+        (λ t. agree_of (store s.forest.tops c c _ (λ l. kept (node_kept c ms s' (ltb→lt c G.nodes t) (freed_ground fits g b c o e)
+        (child_upmost fits g b c o e) f m))))
         (λ t. group_freed last c s' (group t) (child_not_open fits g b c o e) (freed_ground fits g b c o e) (child_upmost fits g b c o e) f m)))
       where
         s' : State

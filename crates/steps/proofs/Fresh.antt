@@ -86,6 +86,7 @@ module _ (G : Graph) (fits : 2 * G.nodes ≤ missing) (some : 1 ≤ G.nodes) whe
     below = λ b c s h. absurd (no_child b c h);
     open_top = λ b o. absurd o;
     placed = λ v l. inl (alone v l);
+    pending_top = λ d o. absurd o;
   }
 
   pub fresh_holds : Of (Holding G) (start G)

@@ -1,29 +1,32 @@
 -- A new group is made of outermost numbers: the forest with the new ring keeps the invariant, but for the entries of the nodes in it.
 use mathlib.Core.Path.{◌≡◌, refl, sym, ap, ◌∙◌, subst}
-use mathlib.Core.Bool.{◌&&◌}
+use mathlib.Core.Bool.{Bool, true, false, not, ◌&&◌}
 use mathlib.Core.Logic.{◌≢◌, ◌⊎◌, inl, inr, ⊎_elim}
 use mathlib.Core.List.{List, [], ◌∷◌, ◌++◌}
 use Prim.Native.Nat.{ℕ, ◌+◌, ◌*◌, ◌%◌, ◌<◌, ◌≤◌}
 use native.Mathlib.Omega.{arith}
-use lib.Dec.{T, leb, eqb→eq, leb→le}
+use lib.Dec.{T, leb, eqb→eq, leb→le, le→leb}
 use lib.Ieee.Fits.{and_l, and_r}
 use lib.ListN.{length, set, length-set, get_or-eq_default}
 use lib.Seq.{get_or-set_same, get_or-set_other}
-use Rattle.laws.specs.Lists.{Each}
+use Rattle.laws.specs.Lists.{Each, repeats}
 use Rattle.laws.specs.Times.{times}
 use Rattle.laws.specs.Run.{◌>>=◌, for_each}
+use Rattle.laws.proofs.Lists.{each_map}
 use Rattle.laws.proofs.Times.{same_or_not, none_or_some, bit_same, bit_other, times_nil, times_cons, times_later, times_snoc, times_once, times_each}
 use Rattle.laws.proofs.Kept.{Kept, kept, kept_bind, kept_map}
-use Rattle.laws.proofs.Keeping.{store, stored, holding}
-use Rattle.matching.specs.Graph.{Graph, missing}
+use Rattle.laws.proofs.Keeping.{store, stored, Agree, agree_of, agree_holding}
+use Rattle.matching.specs.Graph.{Graph, missing, is_odd}
 use Rattle.matching.specs.Certificate.{parent_of}
 use Rattle.steps.specs.State.{Forest, State}
 use Rattle.steps.specs.Stores.{with_parents, with_bases, with_children, with_free, put_children, put_ring_ends}
 use Rattle.steps.specs.Add.{fit_children, adopt, ring_up}
-use Rattle.steps.specs.Standing.{top_of, parent, base_of, children_of, IsGroup, InUse}
+use Rattle.steps.specs.Listed as listed
+use Rattle.steps.specs.Standing.{top_of, parent, base_of, children_of, IsGroup, InUse, Free}
 use Rattle.steps.proofs.Climbing.{Within, parent_same, parent_other, still_within, one_on}
 use Rattle.steps.proofs.Frames.{Of}
-use Rattle.steps.proofs.Ground.{Upmost, Placed, Pending, Used, Unused, Held, Fit, Ground, Nothing, Or, is_known, short}
+use Rattle.steps.proofs.Entries.{Entry, entry_upmost, few_entries}
+use Rattle.steps.proofs.Ground.{Upmost, Placed, Pending, Used, Held, Fit, Ground, Nothing, Or, is_known, short}
 
 -- ---- the children get their parent
 
@@ -84,7 +87,7 @@ module _ {n : ℕ} {F : Forest} (g : Ground n Nothing Nothing F) (new : ℕ) (re
   taken_group : IsGroup n new
   taken_group = g.free_group new (omega (arith, taken_once))
 
-  taken_unused : Unused F new
+  taken_unused : Free F new
   taken_unused = ⊎_elim (λ (u : Used F new). let no_way : ⊥ = omega (arith, taken_once, u.1) in absurd no_way) (λ u. u) (g.number new taken_group)
 
 module _ {n : ℕ} {F : Forest} (fits : 2 * n ≤ missing) (g : Ground n Nothing Nothing F) (new base : ℕ) (kids qs rest : List ℕ) (ends : List (List ℕ))
@@ -93,7 +96,7 @@ module _ {n : ℕ} {F : Forest} (fits : 2 * n ≤ missing) (g : Ground n Nothing
   abbrev F' : Forest
   F' = grown new base kids qs rest ends F
 
-  unused : Unused F new
+  unused : Free F new
   unused = taken_unused g new rest taken
 
   new_group : IsGroup n new
@@ -155,14 +158,15 @@ module _ {n : ℕ} {F : Forest} (fits : 2 * n ≤ missing) (g : Ground n Nothing
     below = below_now;
     open_top = λ x o. absurd o;
     placed = placed_now;
+    pending_top = λ d o. ⊎_elim (λ o. absurd o) (λ q. ap (parent F') q ∙ new_upmost.no_parent) o;
   }
     where
-      number_now : (x : ℕ) → IsGroup n x → Used F' x ⊎ Unused F' x
+      number_now : (x : ℕ) → IsGroup n x → Used F' x ⊎ Free F' x
       number_now x k = ⊎_elim
           (λ (e : x ≡ new). inl (rw (e, base_here) known, omega (arith, unused.once_free, was_free, ap (λ z. times z rest) e)))
           (λ d. ⊎_elim
           (λ (u : Used F x). inl (in_use_now x u.0, sym (same_times x d) ∙ u.1))
-          (λ (u : Unused F x). inr (record {
+          (λ (u : Free F x). inr (record {
             no_base = base_there x d ∙ u.no_base;
             once_free = sym (same_times x d) ∙ u.once_free;
             no_children = ring_there x d ∙ u.no_children;
@@ -238,9 +242,9 @@ pub record Ringed (n new : ℕ) (rest ms : List ℕ) (F : Forest) (M : List ℕ)
   pub free_same : F.free ≡ rest
   pub mates_same : M ≡ ms
 
-fit_kids : (n : ℕ) (kids : List ℕ) → T (fit_children n kids) → Fit kids
-unfolding fit_children
-fit_kids n kids t = record {
+fit_kids : (kids : List ℕ) → T (listed.fit_children kids) → Fit kids
+unfolding listed.fit_children
+fit_kids kids t = record {
   is_odd = eqb→eq (length kids % 2) 1 (search (and_l, and_r));
   three_or_more = leb→le 3 (length kids) (search (and_l, and_r));
   none_twice = times_once kids (search (and_l, and_r));
@@ -255,24 +259,46 @@ adopts_anew new kids ps qs l e h = record {
       (sym q)) (λ d. parent_other ps new missing x d) (same_or_not x new);
 }
 
+-- the children are entries of the outermost list, none twice, so no more than n; and the number taken is a group's
+same_fit : {n : ℕ} {F : Forest} → Ground n Nothing Nothing F → (kids : List ℕ) (new : ℕ) → Each (Entry F) kids → n ≤ new
+    → listed.fit_children kids ≡ (fit_children n kids && leb n new)
+unfolding listed.fit_children fit_children
+same_fit {n} g kids new h l = go (is_odd (length kids)) (leb 3 (length kids)) (leb (length kids) n) (not (repeats kids)) (leb n new)
+    (λ t. le→leb (length kids) n (few_entries g kids h (times_once kids t))) (le→leb n new l)
+  where
+    go : (a b c d e : Bool) → (T d → T c) → T e → (a && b && d) ≡ ((a && b && c && d) && e)
+    go a b c d false f t = absurd t
+    go false b c d true f t = refl
+    go true false c d true f t = refl
+    go true true true true true f t = refl
+    go true true true false true f t = refl
+    go true true false true true f t = absurd (f tt)
+    go true true false false true f t = refl
+
 pub ring_made : (G : Graph) (new base : ℕ) (kids ends rest : List ℕ) (s : State) → 2 * G.nodes ≤ missing
-    → Ground G.nodes Nothing Nothing s.forest → s.forest.free ≡ rest ++ (new ∷ []) → base ≢ missing
-    → Each (Upmost G.nodes s.forest) kids → Kept (Of (Ringed G.nodes new rest s.pairing.mates)) (ring_up G new base kids ends (with_free rest s))
-unfolding ring_up
-ring_made G new base kids ends rest s fits g taken known tops =
-    holding (fit_children G.nodes kids && leb G.nodes new) _ (λ t. stored s.forest.bases new base (λ l. with_bases l (with_free rest s)) _ (λ _.
+    → Ground G.nodes Nothing Nothing s.forest → s.forest.free ≡ rest ++ (new ∷ []) → base ≢ missing → Each (Entry s.forest) kids
+    → Agree (Of (Ringed G.nodes new rest s.pairing.mates)) (listed.ring_up new base kids ends (with_free rest s))
+    (ring_up G new base kids ends (with_free rest s))
+unfolding listed.ring_up ring_up
+ring_made G new base kids ends rest s fits g taken known entries =
+    agree_holding (listed.fit_children kids) (fit_children G.nodes kids && leb G.nodes new)
+    (same_fit g kids new entries (taken_group g new rest taken).0) _ _ (λ t. agree_of (
+    stored s.forest.bases new base (λ l. with_bases l (with_free rest s)) _ (λ _.
     stored s.forest.parents new missing (λ l. with_parents l (with_bases (set s.forest.bases new base) (with_free rest s))) _ (λ i.
     kept_bind (adopted new kids (with_parents (set s.forest.parents new missing) (with_bases (set s.forest.bases new base) (with_free rest s)))) (λ u h.
     subst (λ u. Kept (Of (Ringed G.nodes new rest s.pairing.mates)) (put_children new kids u >>= λ u. put_ring_ends new ends u)) (sym h.1)
     (stored s.forest.children new kids (λ l. with_children l (with_parents h.0 (with_bases (set s.forest.bases new base) (with_free rest s)))) _ (λ _.
-    store s.forest.ring_ends new ends _ (λ _. kept (now h.0 (set s.forest.ring_ends new ends) (and_l (fit_children G.nodes kids)
-    (leb G.nodes new) t) (adopts_anew new kids s.forest.parents h.0 i (taken_unused g new rest taken).no_parent h.2)))))))))
+    store s.forest.ring_ends new ends _ (λ _. kept (now h.0 (set s.forest.ring_ends new ends) t
+    (adopts_anew new kids s.forest.parents h.0 i (taken_unused g new rest taken).no_parent h.2))))))))))
   where
-    now : (qs : List ℕ) (ends : List (List ℕ)) → T (fit_children G.nodes kids) → Adopts new kids s.forest.parents qs
+    tops : Each (Upmost G.nodes s.forest) kids
+    tops = each_map (entry_upmost g) kids entries
+
+    now : (qs : List ℕ) (ends : List (List ℕ)) → T (listed.fit_children kids) → Adopts new kids s.forest.parents qs
         → Ringed G.nodes new rest s.pairing.mates (grown new base kids qs rest ends s.forest) s.pairing.mates
     now qs ends t a = record {
-      ground = grown_ground fits g new base kids qs rest ends taken known (fit_kids G.nodes kids t) tops a;
-      upmost = new_upmost fits g new base kids qs rest ends taken known (fit_kids G.nodes kids t) tops a;
+      ground = grown_ground fits g new base kids qs rest ends taken known (fit_kids kids t) tops a;
+      upmost = new_upmost fits g new base kids qs rest ends taken known (fit_kids kids t) tops a;
       free_same = refl;
       mates_same = refl;
     }

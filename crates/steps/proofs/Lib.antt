@@ -1,4 +1,4 @@
--- What is proved of the definition: the tables, demand 3, and that DONE means optimal.
+-- What is proved of the definition: the tables, that DONE means optimal, demand 3, and that the causes of FAULT are those listed.
 pub mod Computed
 pub mod Table
 pub mod Worked
@@ -10,11 +10,14 @@ pub mod Ground
 pub mod Count
 pub mod Frames
 pub mod Nodes
+pub mod Entries
 pub mod Freeing
+pub mod Relabelling
 pub mod Opening
 pub mod Turning
 pub mod Augmenting
 pub mod Growing
+pub mod Linking
 pub mod Adding
 pub mod Stepping
 pub mod Fresh

@@ -1,28 +1,35 @@
--- A group is opened (`expand_group`): its children are freed one by one, then its number goes to the free ones. The invariant is kept.
+-- A group is opened (`expand_group`): its children are freed one by one, then its number goes to the free ones. The invariant is kept, and
+-- without the limits on leaf lists and on the free numbers it is the same.
 use mathlib.Core.Path.{◌≡◌, refl, sym, ap, ◌∙◌, subst}
-use mathlib.Core.Bool.{Bool, not, ◌&&◌}
+use mathlib.Core.Bool.{Bool, true, false, not, ◌&&◌}
 use mathlib.Core.Logic.{◌≢◌, ◌⊎◌, inl, inr, ⊎_elim}
 use mathlib.Core.List.{List, [], ◌∷◌, ◌++◌}
 use Prim.Native.Nat.{ℕ, zero, suc, ◌*◌, ◌<◌, ◌≤◌}
 use native.Mathlib.Omega.{arith}
-use lib.Dec.{eqb}
-use lib.ListN.{set, length-set}
+use lib.Dec.{T, eqb, ltb}
+use lib.Ieee.Fits.{and_l}
+use lib.ListN.{get_or, set, length-set, length-append}
 use lib.Seq.{get_or-set_same, get_or-set_other}
 use Rattle.laws.specs.Times.{times}
-use Rattle.laws.specs.Run.{Run, for_each, at}
+use Rattle.laws.specs.Run.{Run, ok, ◌>>=◌, for_each, at, push}
 use Rattle.laws.proofs.Times.{same_or_not, bit_same, bit_other, times_nil, times_cons, times_here, times_later, times_snoc}
-use Rattle.laws.proofs.Kept.{Kept, kept, torn, kept_bind, kept_only_if}
-use Rattle.laws.proofs.Keeping.{skip, load, stored, kept_push}
+use Rattle.laws.proofs.Kept.{Kept, kept, kept_map, kept_for_each}
+use Rattle.laws.proofs.Keeping.{skip, store, stored, either_way, kept_known, pushed, Agree, agree, both_torn, agree_of, agree_at, agree_map}
+use Rattle.laws.proofs.Keeping.{agree_also, agree_bind, agree_skip, agree_load, agree_stored, agree_where}
 use Rattle.matching.specs.Graph.{Graph, missing}
 use Rattle.matching.specs.Certificate.{parent_of}
 use Rattle.steps.specs.State.{Forest, State}
-use Rattle.steps.specs.Stores.{with_children, with_ring_ends, with_bases}
-use Rattle.steps.specs.Expand.{free_child, relabel_ring, retire, expand_group}
-use Rattle.steps.specs.Standing.{top_of, parent, base_of, children_of, IsGroup}
+use Rattle.steps.specs.Stores.{with_parents, with_free, with_children, with_ring_ends, with_bases}
+use Rattle.steps.specs.Leaves.{leaves_of}
+use Rattle.steps.specs.Expand.{bring_top, free_child, retire, expand_group}
+use Rattle.steps.specs.Listed as listed
+use Rattle.steps.specs.Standing.{top_of, parent, base_of, children_of, IsGroup, Free, FirstFree}
 use Rattle.steps.proofs.Climbing.{Within, last_move}
-use Rattle.steps.proofs.Frames.{Of, label_keeps, end_keeps, best_keeps, relabel_ring_keeps}
-use Rattle.steps.proofs.Ground.{Upmost, Placed, Pending, Used, Unused, Ground, Or, otherwise, is_known}
-use Rattle.steps.proofs.Freeing.{FirstFree, Frees, Ready, Opened, Freed, child_freed}
+use Rattle.steps.proofs.Frames.{Of, label_keeps, end_keeps, best_keeps}
+use Rattle.steps.proofs.Ground.{Upmost, Placed, Pending, Used, Ground, Or, otherwise, is_known, few_free}
+use Rattle.steps.proofs.Nodes.{list_fits}
+use Rattle.steps.proofs.Freeing.{Frees, Ready, Opened, Freed, child_freed}
+use Rattle.steps.proofs.Relabelling.{relabelled}
 
 -- ---- the emptied group's number is freed
 
@@ -85,6 +92,7 @@ module _ {n : ℕ} {O D : ℕ → Type 0} {F : Forest} (fits : 2 * n ≤ missing
     below = below_now;
     open_top = λ x o. ((g.open_top x (inl o)).0, upmost_now x (λ e. shut (subst O e o)) (g.open_top x (inl o)).1);
     placed = placed_now;
+    pending_top = λ d o. g.pending_top d (inl o);
   }
     where
       free_now : (x : ℕ) → 0 < times x (F.free ++ (b ∷ [])) → IsGroup n x
@@ -93,7 +101,7 @@ module _ {n : ℕ} {O D : ℕ → Type 0} {F : Forest} (fits : 2 * n ≤ missing
       was_used : times b F.free ≡ 0
       was_used = ⊎_elim (λ u. u.1) (λ u. absurd ((g.open_top b (inr refl)).1.in_use u.no_base)) (g.number b group)
 
-      number_now : (x : ℕ) → IsGroup n x → Used F' x ⊎ Unused F' x
+      number_now : (x : ℕ) → IsGroup n x → Used F' x ⊎ Free F' x
       number_now x k = ⊎_elim
           (λ e. inr (record {
             no_base = ap (base_of F') e ∙ base_here;
@@ -104,8 +112,13 @@ module _ {n : ℕ} {O D : ℕ → Type 0} {F : Forest} (fits : 2 * n ≤ missing
           (λ d. let same : times x (F.free ++ (b ∷ [])) ≡ times x F.free = omega (arith, times_snoc x b F.free, bit_other b x (λ z. d (sym z))) in
           ⊎_elim
           (λ (u : Used F x). inl (rw (base_there x d) u.0, same ∙ u.1))
-          (λ (u : Unused F x). inr
-          (record { no_base = base_there x d ∙ u.no_base; once_free = same ∙ u.once_free; no_children = ring_there x d ∙ u.no_children; no_parent = u.no_parent }))
+          (λ (u : Free F x). inr
+          (record {
+            no_base = base_there x d ∙ u.no_base;
+            once_free = same ∙ u.once_free;
+            no_children = ring_there x d ∙ u.no_children;
+            no_parent = u.no_parent;
+          }))
           (g.number x k))
           (same_or_not x b)
 
@@ -137,7 +150,7 @@ module _ {n : ℕ} {O D : ℕ → Type 0} (fits : 2 * n ≤ missing) (b : ℕ) (
   -- all of them are
   begin : {F : Forest} {M : List ℕ} → Ready n O D b ms F M → ps ≡ F.parents → Emptying n O D b ps ms (children_of F b) F M
   begin {F} h e = record {
-    ground = otherwise (λ x o. inl o) (λ x o. ⊎_elim (λ o. h.ground.open_top x o) (λ q. rw q (h.group, h.upmost)) o) (λ v l p. p) h.ground;
+    ground = otherwise (λ x o. inl o) (λ x o. ⊎_elim (λ o. h.ground.open_top x o) (λ q. rw q (h.group, h.upmost)) o) (λ v l p. p) h.ground.pending_top h.ground;
     still_there = λ x k. h.ground.below b x shut k;
     no_others = λ x q. rw q at (h.ground.above x (λ z. is_known fits h.ground b h.group.1 (sym q ∙ z))).listed;
     none_twice = (h.ground.ring b h.group h.upmost.in_use).none_twice;
@@ -197,7 +210,8 @@ module _ {n : ℕ} {O D : ℕ → Type 0} (fits : 2 * n ≤ missing) (b : ℕ) (
 
 -- what is so once the number goes to the free ones
 record Leaving (n : ℕ) (O D : ℕ → Type 0) (b : ℕ) (ps ms : List ℕ) (F : Forest) (M : List ℕ) : Type 0 where
-  ground : Ground n O D (record { tops = F.tops; parents = F.parents; bases = F.bases; children = F.children; ring_ends = F.ring_ends; free = F.free ++ (b ∷ []) })
+  ground : Ground n O D
+      (record { tops = F.tops; parents = F.parents; bases = F.bases; children = F.children; ring_ends = F.ring_ends; free = F.free ++ (b ∷ []) })
   frees : Frees O ps F.parents
   first : FirstFree n F
   mates_same : M ≡ ms
@@ -206,36 +220,27 @@ record Leaving (n : ℕ) (O D : ℕ → Type 0) (b : ℕ) (ps ms : List ℕ) (F 
 
 module _ (G : Graph) (fits : 2 * G.nodes ≤ missing) where
   module _ {O D : ℕ → Type 0} (ps ms : List ℕ) (b : ℕ) (shut : ¬ (O b)) where
-    all_freed : (f : ℕ → State → Run State)
+    all_freed : (f f' : ℕ → State → Run State)
         → ((c : ℕ) (s : State) → parent s.forest c ≡ b → Ground G.nodes (Or O b) (Or D b) s.forest → FirstFree G.nodes s.forest
-        → s.pairing.mates ≡ ms → Kept (Of (Freed G.nodes (Or O b) (Or D b) c s.forest.parents ms)) (f c s))
-        → (kids : List ℕ) (s : State) → Of (Emptying G.nodes O D b ps ms kids) s → Kept (Of (Emptying G.nodes O D b ps ms [])) (for_each f kids s)
-    all_freed f step [] s h = kept h
-    all_freed f step (c ∷ kids) s h =
-        kept_bind (step c s (h.still_there c (omega (arith, times_here c kids))) h.ground h.first h.mates_same) (λ t k.
-        all_freed f step kids t (onward fits b shut c kids h k))
+        → s.pairing.mates ≡ ms → Agree (Of (Freed G.nodes (Or O b) (Or D b) c s.forest.parents ms)) (f c s) (f' c s))
+        → (kids : List ℕ) (s : State) → Of (Emptying G.nodes O D b ps ms kids) s
+        → Agree (Of (Emptying G.nodes O D b ps ms [])) (for_each f kids s) (for_each f' kids s)
+    all_freed f f' step [] s h = agree h
+    all_freed f f' step (c ∷ kids) s h =
+        agree_bind (step c s (h.still_there c (omega (arith, times_here c kids))) h.ground h.first h.mates_same) (λ t k.
+        all_freed f f' step kids t (onward fits b shut c kids h k))
 
-    retired : (s : State) → Of (Emptying G.nodes O D b ps ms []) s → Kept (Of (Opened G.nodes O D ps ms)) (retire G b s)
-    unfolding retire
+    -- the free numbers are n at most, b among them
+    retired : (s : State) → Of (Emptying G.nodes O D b ps ms []) s → Agree (Of (Opened G.nodes O D ps ms)) (listed.retire b s) (retire G b s)
+    unfolding listed.retire retire
     retired s h =
-        kept_bind (label_keeps (Emptying G.nodes O D b ps ms []) b missing s h) (λ s h. kept_bind
-        (end_keeps (Emptying G.nodes O D b ps ms []) b missing s h) (λ s h.
-        stored s.forest.children b [] (λ l. with_children l s) _ (λ i. stored s.forest.ring_ends b [] (λ l. with_ring_ends l
-        (with_children (set s.forest.children b []) s)) _ (λ i.
-        stored s.forest.bases b missing (λ l. with_bases l (with_ring_ends (set s.forest.ring_ends b []) (with_children
-        (set s.forest.children b []) s))) _ (λ i.
-        kept_bind (best_keeps (Leaving G.nodes O D b ps ms) b missing _ (leaving s h)) (λ s h. kept_bind (kept_push G.nodes b s.forest.free)
-        (λ free e.
-        kept (record {
-          ground = rw e h.ground;
-          frees = h.frees;
-          first = (
-            h.first.0 ++ (b ∷ []),
-            e ∙ ap (λ l. l ++ (b ∷ []))
-                h.first.1,
-          );
-          mates_same = h.mates_same;
-        }))))))))
+        agree_bind (agree_of (label_keeps (Emptying G.nodes O D b ps ms []) b missing s h)) (λ s h. agree_bind
+        (agree_of (end_keeps (Emptying G.nodes O D b ps ms []) b missing s h)) (λ s h.
+        agree_stored s.forest.children b [] (λ l. with_children l s) _ _ (λ i. agree_stored s.forest.ring_ends b [] (λ l. with_ring_ends l
+        (with_children (set s.forest.children b []) s)) _ _ (λ i.
+        agree_stored s.forest.bases b missing (λ l. with_bases l (with_ring_ends (set s.forest.ring_ends b []) (with_children
+        (set s.forest.children b []) s))) _ _ (λ i.
+        agree_bind (agree_of (best_keeps (Leaving G.nodes O D b ps ms) b missing _ (leaving s h))) (λ s h. number_freed s h))))))
       where
         leaving : (s : State) → Of (Emptying G.nodes O D b ps ms []) s
             → Of (Leaving G.nodes O D b ps ms)
@@ -248,13 +253,59 @@ module _ (G : Graph) (fits : 2 * G.nodes ≤ missing) where
           mates_same = h.mates_same;
         }
 
+        number_freed : (s : State) → Of (Leaving G.nodes O D b ps ms) s
+            → Agree (Of (Opened G.nodes O D ps ms)) (ok (with_free (s.forest.free ++ (b ∷ [])) s)) (push G.nodes b s.forest.free >>= λ l. ok (with_free l s))
+        number_freed s h =
+            agree_at (ap (λ r. r >>= λ l. ok (with_free l s)) (sym (pushed G.nodes b s.forest.free (omega
+            (arith, few_free fits h.ground, length-append s.forest.free (b ∷ []))))))
+            (kept (record {
+              ground = h.ground;
+              frees = h.frees;
+              first = (h.first.0 ++ (b ∷ []), ap (λ l. l ++ (b ∷ [])) h.first.1);
+              mates_same = h.mates_same;
+            }))
+
+  -- within a stage no child is opened in its turn, and the rings stay as they are
+  rings_stay : (sub : ℕ → State → Run State) (last : Bool) (kids : List ℕ) (s : State)
+      → Kept (λ t. T (not last) → t.forest.children ≡ s.forest.children) (for_each (listed.free_child G sub last) kids s)
+  unfolding listed.free_child listed.free_group listed.keep_child bring_top
+  rings_stay sub true kids s = kept_map (λ t u v. absurd v) (kept_known {P = Unit {0}} _ tt)
+  rings_stay sub false kids s = kept_map (λ t h u. h) (kept_for_each {I = λ t. t.forest.children ≡ s.forest.children} child kids refl)
+    where
+      child : (c : ℕ) (t : State) → t.forest.children ≡ s.forest.children
+          → Kept (λ t. t.forest.children ≡ s.forest.children) (listed.free_child G sub false c t)
+      child c t h = stored t.forest.parents c missing (λ l. with_parents l t) _ (λ l. either_way (ltb c G.nodes) _ _
+          (λ u. store t.forest.tops c c _ (λ l. kept h))
+          (λ u. skip (listed.leaves_of G (with_parents (set t.forest.parents c missing) t) c) _ (λ vs.
+          kept_for_each {I = λ t. t.forest.children ≡ s.forest.children} (λ v t h. store t.forest.tops v c _ (λ l. kept h)) vs h)))
+
+  -- the children of b are not open
+  kids_shut : {O D : ℕ → Type 0} {ms : List ℕ} (b : ℕ) (s : State) → Of (Ready G.nodes O D b ms) s → (c : ℕ) → 0 < times c (children_of s.forest b)
+      → ¬ (Or O b c)
+  kids_shut {O} b s h c k o = is_known fits h.ground b h.group.1 (sym (h.ground.below b c h.shut k) ∙ top o)
+    where
+      top : Or O b c → parent s.forest c ≡ missing
+      top (inl o) = (h.ground.open_top c o).1.no_parent
+      top (inr e) = ap (parent s.forest) e ∙ h.upmost.no_parent
+
   pub opened : (depth : ℕ) (last : Bool) {O D : ℕ → Type 0} (ms : List ℕ) (b : ℕ) (s : State) → Of (Ready G.nodes O D b ms) s
-      → Kept (Of (Opened G.nodes O D s.forest.parents ms)) (expand_group G depth last b s)
-  unfolding expand_group
-  opened zero last ms b s h = torn
-  opened (suc depth) last {O} {D} ms b s h = load s.forest.children b [] _ (λ i.
-      kept_bind (all_freed s.forest.parents ms b h.shut (free_child G (λ c s. expand_group G depth last c s) last)
-      (λ c s e g f m. child_freed G fits (λ c s. expand_group G depth last c s) ms (λ c s r. opened depth last ms c s r) last b c s (inr refl) e g f m)
-      (children_of s.forest b) s (begin fits b h.shut h refl)) (λ t k. skip (at t.labelling.labels b) _ (λ l.
-      kept_bind (kept_only_if (not last && eqb l 2) (relabel_ring G b) t (λ _. relabel_ring_keeps _ G b t k) k) (λ t k. retired
-      s.forest.parents ms b h.shut t k))))
+      → Agree (Of (Opened G.nodes O D s.forest.parents ms)) (listed.expand_group G depth last b s) (expand_group G depth last b s)
+  unfolding listed.expand_group expand_group
+  opened zero last ms b s h = both_torn
+  opened (suc depth) last {O} {D} ms b s h = agree_load s.forest.children b [] _ _ (λ i.
+      agree_bind (agree_also (all_freed s.forest.parents ms b h.shut (listed.free_child G (λ c s. listed.expand_group G depth last c s) last)
+      (free_child G (λ c s. expand_group G depth last c s) last)
+      (λ c s e g f m. child_freed G fits (λ c s. listed.expand_group G depth last c s) (λ c s. expand_group G depth last c s) ms
+      (λ c s r. opened depth last ms c s r) last b c s (inr refl) e g f m)
+      (children_of s.forest b) s (begin fits b h.shut h refl)) (rings_stay _ last (children_of s.forest b) s)) (λ t k.
+      agree_skip (at t.labelling.labels b) _ _ (λ l.
+      agree_bind (agree_where {P = Of (Emptying G.nodes O D b s.forest.parents ms [])} (not last && eqb l 2) _ _ t
+      (λ u. agree_map (λ v q. subst (λ F. Emptying G.nodes O D b s.forest.parents ms [] F v.pairing.mates) (sym q.0)
+      (subst (Emptying G.nodes O D b s.forest.parents ms [] t.forest) (sym q.1) k.0))
+      (relabelled G t.forest t.pairing.mates b (lists_fit t k.0 (k.1 (and_l (not last) (eqb l 2) u))) t (refl, refl))) k.0) (λ t k.
+      retired s.forest.parents ms b h.shut t k))))
+    where
+      lists_fit : (t : State) → Of (Emptying G.nodes O D b s.forest.parents ms []) t → t.forest.children ≡ s.forest.children → (c : ℕ) (u : State)
+          → 0 < times c (children_of t.forest b) → u.forest ≡ t.forest → listed.leaves_of G u c ≡ leaves_of G u c
+      lists_fit t k q c u m e = list_fits G u fits (subst (Ground G.nodes (Or O b) (Or D b)) (sym e) k.ground) c
+          (kids_shut b s h c (subst (λ (l : List (List ℕ)). 0 < times c (get_or l b [])) q m))

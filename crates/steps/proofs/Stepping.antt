@@ -1,7 +1,8 @@
 -- Each of the four kinds of step keeps what holds after a completed step; and two runs by tests that agree everywhere but at number n
--- take the same step (`Agree`, as in Augmenting).
+-- take the same step (`Agree`, as in Augmenting), the one with the causes of FAULT that are listed alone (specs/Listed), the other with all
+-- tests of the definition.
 use Rattle.std.specs.Prelude.{if◌then◌else◌}
-use mathlib.Core.Path.{◌≡◌, refl}
+use mathlib.Core.Path.{◌≡◌, refl, ap, ◌∙◌}
 use mathlib.Core.Bool.{Bool, true, false, not, ◌&&◌}
 use mathlib.Core.Logic.{◌≢◌, inl, ⊎_elim}
 use mathlib.Core.List.{List, [], ◌∷◌}
@@ -14,8 +15,9 @@ use lib.Signed.{le_z}
 use lib.ListN.{take}
 use Rattle.laws.specs.Integers.{is_zero, half, is_even}
 use Rattle.laws.specs.Run.{ok, must, at, pop}
-use Rattle.laws.proofs.Kept.{Kept, kept, torn, kept_bind, kept_map, kept_only_if, kept_for_range}
-use Rattle.laws.proofs.Keeping.{skip, load, either_way, Agree, agree, agree_of, agree_bind, agree_skip, agree_either, agree_only_if}
+use Rattle.laws.proofs.Kept.{Kept, kept, kept_bind, kept_map, kept_only_if, kept_for_range}
+use Rattle.laws.proofs.Keeping.{skip, load, either_way, Agree, agree, both_torn, agree_of, agree_map, agree_bind, agree_skip, agree_either}
+use Rattle.laws.proofs.Keeping.{agree_only_if, agree_where, agree_for_range}
 use Rattle.matching.specs.Graph.{Graph, missing, is_missing, beside}
 use Rattle.matching.specs.Certificate.{parent_of, MateHolds}
 use Rattle.steps.specs.Ends.{endpoint, slack_of, far_ends}
@@ -23,8 +25,11 @@ use Rattle.steps.specs.State.{Forest, State, Phase, opening, searching, closing,
 use Rattle.steps.specs.Stores.{put_allowed}
 use Rattle.steps.specs.Scan.{scan}
 use Rattle.steps.specs.Expand.{expand_top}
-use Rattle.steps.specs.Adjust.{Delta, no_delta, type1, type2, type3, type4, less_than, least_dual, delta1, offer2, delta2_at, offer3, delta3_at, is_outermost, delta4_at, delta_last, choose_delta, follow, adjust_duals}
-use Rattle.steps.specs.Steps.{reach, join, use_edge, pass_edge, visit, visit_all, is_closing, take_node, close_group, close_stage, take_or_adjust, step_at, step}
+use Rattle.steps.specs.Adjust.{Delta, no_delta, type1, type2, type3, type4, less_than, least_dual, delta1, offer2, delta2_at, offer3, delta3_at}
+use Rattle.steps.specs.Adjust.{is_outermost, delta4_at, delta_last, choose_delta, follow, adjust_duals}
+use Rattle.steps.specs.Steps.{reach, join, use_edge, pass_edge, visit, visit_all, is_closing, take_node, close_group, close_stage, take_or_adjust}
+use Rattle.steps.specs.Steps.{step_at, step}
+use Rattle.steps.specs.Listed as listed
 use Rattle.steps.specs.Standing.{parent, base_of, IsGroup}
 use Rattle.steps.proofs.Frames.{Of, allowed_keeps, label2_keeps, move_duals_keep, follow2_keeps, follow3_keeps, open_keeps, reach_keeps, keep_edge_keeps}
 use Rattle.steps.proofs.Ground.{Upmost, Nothing, otherwise}
@@ -45,14 +50,15 @@ pub record Openable (n : ℕ) (F : Forest) (b : ℕ) : Type 0 where
 module _ (G : Graph) (fits : 2 * G.nodes ≤ missing) where
   -- ---- opening a group
 
-  top_opened : (last : Bool) (b : ℕ) (s : State) → Openable G.nodes s.forest b → Of (Holding G) s → Kept (Of (Holding G)) (expand_top G last b s)
-  unfolding expand_top
+  top_opened : (last : Bool) (b : ℕ) (s : State) → Openable G.nodes s.forest b → Of (Holding G) s
+      → Agree (Of (Holding G)) (listed.expand_top G last b s) (expand_top G last b s)
+  unfolding listed.expand_top expand_top
   top_opened last b s o (f, m) =
-      kept_map (λ t h. (record { ground = h.ground; first = h.first }, rw h.mates_same m))
+      agree_map (λ t h. (record { ground = h.ground; first = h.first }, rw h.mates_same m))
       (opened G fits G.nodes last {O = Nothing} {D = Nothing} s.pairing.mates b s
       (record {
         ground = otherwise (λ x o. o) (λ x o. absurd o) (λ v l p. ⊎_elim (λ p. inl p) (λ p. absurd p.1) p)
-            f.ground;
+            (λ d q. ⊎_elim (λ q. absurd q) (λ e. ap (parent s.forest) e ∙ o.upmost.no_parent) q) f.ground;
         group = o.group;
         upmost = o.upmost;
         shut = λ z. z;
@@ -133,52 +139,54 @@ module _ (G : Graph) (fits : 2 * G.nodes ≤ missing) where
         kept_bind (kept_for_range (λ i d. (G.nodes ≤ i) × Found s d) (delta4_at s) (λ i d h. found4 f i d h) G.nodes G.nodes d (omega arith, h))
         (λ d h. last_found d h.1))))
 
-    followed : (d : Delta) → Found s d → Of (Holding G) s → Kept (Of (Holding G)) (follow G d s)
-    unfolding follow
-    followed no_delta k h = torn
-    followed (type1 d) k h = kept_bind (move_duals_keep (Holding G) G d s h) (λ t h. kept h)
-    followed (type2 d e) k h = kept_bind (move_duals_keep (Holding G) G d s h) (λ t h. follow2_keeps (Holding G) G e t h)
-    followed (type3 d e) k h = kept_bind (move_duals_keep (Holding G) G d s h) (λ t h. follow3_keeps (Holding G) G e t h)
-    followed (type4 d b) k h = kept_bind (move_duals_keep (λ F M. Openable G.nodes F b × Holding G F M) G d s (k, h)) (λ t h. top_opened false b t
-        h.0 h.1)
+    followed : (d : Delta) → Found s d → Of (Holding G) s → Agree (Of (Holding G)) (listed.follow G d s) (follow G d s)
+    unfolding listed.follow follow
+    followed no_delta k h = both_torn
+    followed (type1 d) k h = agree_bind (agree_of (move_duals_keep (Holding G) G d s h)) (λ t h. agree h)
+    followed (type2 d e) k h = agree_of (kept_bind (move_duals_keep (Holding G) G d s h) (λ t h. follow2_keeps (Holding G) G e t h))
+    followed (type3 d e) k h = agree_of (kept_bind (move_duals_keep (Holding G) G d s h) (λ t h. follow3_keeps (Holding G) G e t h))
+    followed (type4 d b) k h = agree_bind (agree_of (move_duals_keep (λ F M. Openable G.nodes F b × Holding G F M) G d s (k, h))) (λ t h.
+        top_opened false b t h.0 h.1)
 
-    adjusted : (flag : Bool) → Of (Holding G) s → Kept (Of (Holding G)) (adjust_duals G flag s)
-    unfolding adjust_duals
-    adjusted flag h = kept_bind (chosen flag h.0) (λ d k. followed d k h)
+    adjusted : (flag : Bool) → Of (Holding G) s → Agree (Of (Holding G)) (listed.adjust_duals G flag s) (adjust_duals G flag s)
+    unfolding listed.adjust_duals adjust_duals
+    adjusted flag h = agree_bind (agree_of (chosen flag h.0)) (λ d k. followed d k h)
 
   -- ---- closing a stage
 
-  group_closed : (b : ℕ) (s : State) → (G.nodes ≤ b) × Of (Holding G) s → Kept (λ t. (G.nodes ≤ suc b) × Of (Holding G) t) (close_group G b s)
-  unfolding close_group
+  group_closed : (b : ℕ) (s : State) → (G.nodes ≤ b) × Of (Holding G) s
+      → Agree (λ t. (G.nodes ≤ suc b) × Of (Holding G) t) (listed.close_group G b s) (close_group G b s)
+  unfolding listed.close_group close_group
   group_closed b s (i, h) =
-      kept_bind (tested s b i h.0) (λ o k. skip (at s.labelling.labels b) _ (λ l. skip (at s.pairing.duals b) _ (λ d.
-      kept_map (λ t h. (omega arith, h)) (kept_only_if {P = Of (Holding G)} (o && eqb l 1 && is_zero d) (expand_top G true b) s (λ t. top_opened true b s
+      agree_bind (agree_of (tested s b i h.0)) (λ o k. agree_skip (at s.labelling.labels b) _ _ (λ l. agree_skip (at s.pairing.duals b) _ _ (λ d.
+      agree_map (λ t h. (omega arith, h)) (agree_where {P = Of (Holding G)} (o && eqb l 1 && is_zero d) _ _ s (λ t. top_opened true b s
       (k (and_l o (eqb l 1) (and_l (o && eqb l 1) (is_zero d) t))) h) h))))
 
-  closed : (s : State) → Of (Holding G) s → Kept (Of (Holding G)) (close_stage G s)
-  unfolding close_stage
+  closed : (s : State) → Of (Holding G) s → Agree (Of (Holding G)) (listed.close_stage G s) (close_stage G s)
+  unfolding listed.close_stage close_stage
   closed s h =
-      kept_bind (kept_for_range (λ i t. (G.nodes ≤ i) × Of (Holding G) t) (close_group G) (λ i t h. group_closed i t h) G.nodes G.nodes s
-      (omega arith, h)) (λ t h. kept h.1)
+      agree_bind (agree_for_range (λ i t. (G.nodes ≤ i) × Of (Holding G) t) (listed.close_group G) (close_group G) (λ i t h. group_closed i t h)
+      G.nodes G.nodes s (omega arith, h)) (λ t h. agree h.1)
 
   -- ---- taking a node, and the next step
 
   module _ (turns turns' : (n c : ℕ) → Bool) (same : (c : ℕ) → c ≢ G.nodes → turns G.nodes c ≡ turns' G.nodes c) where
-    joined : (v w e : ℕ) (s : State) → Of (Holding G) s → Agree (Of (Holding G)) (join turns G v w e s) (join turns' G v w e s)
-    unfolding join
+    joined : (v w e : ℕ) (s : State) → Of (Holding G) s → Agree (Of (Holding G)) (listed.join turns G v w e s) (join turns' G v w e s)
+    unfolding listed.join join
     joined v w e s h = agree_skip (scan G v w s) _ _ (λ base. agree_either (is_missing base) _ _ _ _
         (λ t. agree_bind (augmented G fits turns turns' same e s h.0) (λ s h. agree h))
-        (λ f. agree_of (added G base e s fits (λ q. f (eq→eqb q)) h.0 h.1)))
+        (λ f. added G base e s fits (λ q. f (eq→eqb q)) h.0 h.1))
 
-    edge_used : (v w p l lw : ℕ) (s : State) → Of (Holding G) s → Agree (Of (Holding G)) (use_edge turns G v w p l lw s) (use_edge turns' G v w p l lw s)
-    unfolding use_edge
+    edge_used : (v w p l lw : ℕ) (s : State) → Of (Holding G) s
+        → Agree (Of (Holding G)) (listed.use_edge turns G v w p l lw s) (use_edge turns' G v w p l lw s)
+    unfolding listed.use_edge use_edge
     edge_used v w p l lw s h = agree_either (eqb l 0) _ _ _ _
         (λ t. agree_of (label2_keeps (Holding G) G w (beside p) s h))
         (λ f. agree_either (eqb l 1) _ _ _ _ (λ t. joined v w (p / 2) s h) (λ f. agree_of (kept_only_if (eqb lw 0) (reach w p) s
         (λ t. reach_keeps (Holding G) w p s h) h)))
 
-    edge_passed : (v w p : ℕ) (s : State) → Of (Holding G) s → Agree (Of (Holding G)) (pass_edge turns G v w p s) (pass_edge turns' G v w p s)
-    unfolding pass_edge
+    edge_passed : (v w p : ℕ) (s : State) → Of (Holding G) s → Agree (Of (Holding G)) (listed.pass_edge turns G v w p s) (pass_edge turns' G v w p s)
+    unfolding listed.pass_edge pass_edge
     edge_passed v w p s h =
         agree_skip (at s.labelling.allowed (p / 2)) _ _ (λ a. agree_skip (if a then ok (pos 0) else slack_of G s.pairing.duals (p / 2)) _ _ (λ k.
         agree_bind (agree_of (kept_only_if {P = Of (Holding G)} (not a && le_z k (pos 0)) (put_allowed (p / 2) true) s (λ t. allowed_keeps (Holding G)
@@ -187,38 +195,40 @@ module _ (G : Graph) (fits : 2 * G.nodes ≤ missing) where
         (at s.labelling.labels t) _ _ (λ l. agree_skip (at s.labelling.labels w) _ _ (λ lw.
         agree_either now _ _ _ _ (λ t. edge_used v w p l lw s h) (λ f. agree_of (keep_edge_keeps (Holding G) G v w (p / 2) l lw k s h)))))))))
 
-    visited : (v p : ℕ) (s : State) → Of (Holding G) s → Agree (Of (Holding G)) (visit turns G v p s) (visit turns' G v p s)
-    unfolding visit
+    visited : (v p : ℕ) (s : State) → Of (Holding G) s → Agree (Of (Holding G)) (listed.visit turns G v p s) (visit turns' G v p s)
+    unfolding listed.visit visit
     visited v p s h =
         agree_skip (endpoint G p) _ _ (λ w. agree_skip (at s.forest.tops v) _ _ (λ bv. agree_skip (at s.forest.tops w) _ _ (λ bw.
         agree_only_if (not (eqb bv bw)) (not (eqb bv bw)) refl _ _ s (edge_passed v w p s h) h)))
 
-    all_visited : (v : ℕ) (ps : List ℕ) (s : State) → Of (Holding G) s → Agree (Of (Holding G)) (visit_all turns G v ps s) (visit_all turns' G v ps s)
-    unfolding visit_all
+    all_visited : (v : ℕ) (ps : List ℕ) (s : State) → Of (Holding G) s
+        → Agree (Of (Holding G)) (listed.visit_all turns G v ps s) (visit_all turns' G v ps s)
+    unfolding listed.visit_all visit_all
     all_visited v [] s h = agree h
     all_visited v (p ∷ ps) s h = agree_bind (visited v p s h) (λ s h. agree_either (is_closing s.progress.phase) _ _ _ _ (λ t. agree h) (λ f.
         all_visited v ps s h))
 
-    node_taken : (s : State) → Of (Holding G) s → Agree (Of (Holding G)) (take_node turns G s) (take_node turns' G s)
-    unfolding take_node
+    node_taken : (s : State) → Of (Holding G) s → Agree (Of (Holding G)) (listed.take_node turns G s) (take_node turns' G s)
+    unfolding listed.take_node take_node
     node_taken s h =
         agree_skip (pop s.labelling.queue) _ _ (λ q. agree_skip (at s.forest.tops q.last) _ _ (λ t. agree_skip
         (at s.labelling.labels t) _ _ (λ l. agree_skip (must (eqb l 1)) _ _ (λ u.
         all_visited q.last (far_ends G q.last) _ h))))
 
     took_or_adjusted : (flag : Bool) (queue : List ℕ) (s : State) → Of (Holding G) s
-        → Agree (Of (Holding G)) (take_or_adjust turns G flag queue s) (take_or_adjust turns' G flag queue s)
-    unfolding take_or_adjust
-    took_or_adjusted flag [] s h = agree_of (adjusted s flag h)
+        → Agree (Of (Holding G)) (listed.take_or_adjust turns G flag queue s) (take_or_adjust turns' G flag queue s)
+    unfolding listed.take_or_adjust take_or_adjust
+    took_or_adjusted flag [] s h = adjusted s flag h
     took_or_adjusted flag (v ∷ vs) s h = node_taken s h
 
-    stepped_at : (flag : Bool) (p : Phase) (s : State) → Of (Holding G) s → Agree (Of (Holding G)) (step_at turns G flag p s) (step_at turns' G flag p s)
-    unfolding step_at
+    stepped_at : (flag : Bool) (p : Phase) (s : State) → Of (Holding G) s
+        → Agree (Of (Holding G)) (listed.step_at turns G flag p s) (step_at turns' G flag p s)
+    unfolding listed.step_at step_at
     stepped_at flag opening s h = agree_of (open_keeps (Holding G) G s h)
     stepped_at flag searching s h = took_or_adjusted flag s.labelling.queue s h
-    stepped_at flag closing s h = agree_of (closed s h)
+    stepped_at flag closing s h = closed s h
     stepped_at flag ended s h = agree h
 
-    pub stepped : (flag : Bool) (s : State) → Of (Holding G) s → Agree (Of (Holding G)) (step turns G flag s) (step turns' G flag s)
-    unfolding step
+    pub stepped : (flag : Bool) (s : State) → Of (Holding G) s → Agree (Of (Holding G)) (listed.step turns G flag s) (step turns' G flag s)
+    unfolding listed.step step
     stepped flag s h = stepped_at flag s.progress.phase s h

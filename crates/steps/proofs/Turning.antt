@@ -17,9 +17,8 @@ use Rattle.steps.specs.State.{Forest, State}
 use Rattle.steps.specs.Stores.{with_children, with_ring_ends, with_bases}
 use Rattle.steps.specs.Ring.{rotate}
 use Rattle.steps.specs.Augment.{reroot}
-use Rattle.steps.specs.Standing.{top_of, parent, base_of, children_of, IsGroup, InUse}
-use Rattle.steps.proofs.Ground.{Upmost, Used, Unused, Fit, Ground, Nothing, is_known}
-use Rattle.steps.proofs.Freeing.{FirstFree}
+use Rattle.steps.specs.Standing.{top_of, parent, base_of, children_of, IsGroup, InUse, Free, FirstFree}
+use Rattle.steps.proofs.Ground.{Upmost, Used, Fit, Ground, Nothing, is_known}
 
 -- ---- the forest
 
@@ -91,12 +90,13 @@ module _ {n : ℕ} {O D : ℕ → Type 0} {F : Forest} (g : Ground n O D F) (b i
     below = λ y c s h. g.below y c s (rw (same_members c y) at h);
     open_top = λ x o. ((g.open_top x o).0, upmost_now x (g.open_top x o).1);
     placed = λ x l. ⊎_elim (λ p. inl (record { upmost = upmost_now (top_of F x) p.upmost; lies = p.lies })) (λ p. inr p) (g.placed x l);
+    pending_top = g.pending_top;
   }
     where
-      number_now : (x : ℕ) → IsGroup n x → Used F' x ⊎ Unused F' x
+      number_now : (x : ℕ) → IsGroup n x → Used F' x ⊎ Free F' x
       number_now x k = ⊎_elim
           (λ (u : Used F x). inl (in_use_now x u.0, u.1))
-          (λ (u : Unused F x). let d : x ≢ b = λ e. used (ap (base_of F) (sym e) ∙ u.no_base) in
+          (λ (u : Free F x). let d : x ≢ b = λ e. used (ap (base_of F) (sym e) ∙ u.no_base) in
           inr (record { no_base = base_there x d ∙ u.no_base; once_free = u.once_free; no_children = ring_there x d ∙ u.no_children; no_parent = u.no_parent }))
           (g.number x k)
 
@@ -122,12 +122,12 @@ has_ring {n} {F} h b l k = ⊎_elim
     (λ m. let no_way : ⊥ = omega (arith, ap {B = ℕ} length (h.ground.node_alone b m)) in absurd no_way)
     (λ m. ⊎_elim
     (λ (u : Used F b). ((m, l), u.0))
-    (λ (u : Unused F b). let no_way : ⊥ = omega (arith, ap {B = ℕ} length u.no_children) in absurd no_way)
+    (λ (u : Free F b). let no_way : ⊥ = omega (arith, ap {B = ℕ} length u.no_children) in absurd no_way)
     (h.ground.number b (m, l)))
     (less_or_not b n)
 
 -- number n is free
-pub first_unused : {n : ℕ} {F : Forest} → Firm n F → 1 ≤ n → Unused F n
+pub first_unused : {n : ℕ} {F : Forest} → Firm n F → 1 ≤ n → Free F n
 first_unused {n} {F} h l = ⊎_elim
     (λ (u : Used F n). let no_way : ⊥ = omega (arith, u.1, ap (times n) h.first.1, times_here n h.first.0) in absurd no_way)
     (λ u. u)

@@ -16,3 +16,4 @@ pub mod Plan
 pub mod Check
 pub mod Table
 pub mod Standing
+pub mod Listed

@@ -1,7 +1,8 @@
--- What holds after each completed step: four facts about the groups, the numbers and the mates (`Standing`).
--- `proofs/Steady.antt` shows that they hold from every fresh start, for n from 1 to 32,767: above that the mark for a missing entry,
--- 65,535, is itself the number of a group or a node, and nothing is claimed. Definitions only.
-use Rattle.std.specs.Prelude.{◌≡◌, Bool, not, ◌≢◌, ◌⊎◌, List, [], ℕ, zero, suc, ◌*◌, ◌%◌, ◌<◌, ◌≤◌, ltb, length, get_or}
+-- What holds after each completed step: what is so of the nodes, the groups, the numbers and the mates (`Standing`).
+-- `proofs/Steady.antt` shows that it holds from every fresh start, for n from 1 to 32,767: above that the mark for a missing entry,
+-- 65,535, is itself the number of a group or a node, and nothing is claimed. It shows too what follows from it alone: how many groups
+-- are in use at most, that a free number is always there, and that number n is never taken. Definitions only.
+use Rattle.std.specs.Prelude.{◌≡◌, Bool, not, ◌≢◌, ◌⊎◌, List, [], ◌∷◌, ℕ, zero, suc, ◌*◌, ◌%◌, ◌<◌, ◌≤◌, ltb, length, get_or}
 use Rattle.laws.specs.Lists.{sum, bit}
 use Rattle.laws.specs.Times.{times}
 use Rattle.laws.specs.Run.{ok}
@@ -53,28 +54,51 @@ pub record Grouped (n : ℕ) (F : Forest) (v : ℕ) : Type 0 where
   pub lies_in_it : LiesIn F v (top_of F v)
   pub in_no_other : (b : ℕ) → IsGroup n b → Outermost F b → LiesIn F v b → b ≡ top_of F v
 
--- ---- 2: a group in use has an odd number of children, three or more, none twice, all naming it as parent, and every number with
--- that parent is among them
+-- ---- 2: a group in use has an odd number of children, three or more, none twice, each a node or a group in use, all naming it as
+-- parent, and every number with that parent is among them
 
-pub record Ring (F : Forest) (b : ℕ) : Type 0 where
+abbrev pub GroupInUse : (n : ℕ) → Forest → ℕ → Type 0
+GroupInUse n F b = IsGroup n b × InUse F b
+
+abbrev pub NodeOrGroupInUse : (n : ℕ) → Forest → ℕ → Type 0
+NodeOrGroupInUse n F x = (x < n) ⊎ GroupInUse n F x
+
+pub record Ring (n : ℕ) (F : Forest) (b : ℕ) : Type 0 where
   pub is_odd : length (children_of F b) % 2 ≡ 1
   pub three_or_more : 3 ≤ length (children_of F b)
   pub none_twice : (c : ℕ) → times c (children_of F b) ≤ 1
+  pub each_in_use : (c : ℕ) → 0 < times c (children_of F b) → NodeOrGroupInUse n F c
   pub each_names_it : (c : ℕ) → 0 < times c (children_of F b) → parent F c ≡ b
   pub all_that_name_it : (c : ℕ) → parent F c ≡ b → 0 < times c (children_of F b)
 
--- ---- 3: each group number is in use or free, once
+-- a number's parent is missing, or a group in use
+abbrev pub ParentInUse : (n : ℕ) → Forest → ℕ → Type 0
+ParentInUse n F x = (parent F x ≡ missing) ⊎ GroupInUse n F (parent F x)
+
+-- ---- 3: each group number is in use or free, once; a free one has no base, no children and no parent
+
+pub record Free (F : Forest) (b : ℕ) : Type 0 where
+  pub no_base : base_of F b ≡ missing
+  pub once_free : times b F.free ≡ 1
+  pub no_children : children_of F b ≡ []
+  pub no_parent : parent F b ≡ missing
 
 abbrev pub InUseOrFree : Forest → ℕ → Type 0
-InUseOrFree F b = (InUse F b × (times b F.free ≡ 0)) ⊎ (¬ (InUse F b) × (times b F.free ≡ 1))
+InUseOrFree F b = (InUse F b × (times b F.free ≡ 0)) ⊎ Free F b
 
--- ---- the four; 4: each mate names back (`MateHolds`, condition 11 of the check)
+-- number n stands first among the free ones, of which the last is taken
+abbrev pub FirstFree : (n : ℕ) → Forest → Type 0
+FirstFree n F = (l : List ℕ) × (F.free ≡ n ∷ l)
+
+-- ---- 4: each mate names back (`MateHolds`, condition 11 of the check); and all together
 
 pub record Standing (G : Graph) (s : State) : Type 0 where
   pub nodes : (v : ℕ) → v < G.nodes → Alone s.forest v ⊎ Grouped G.nodes s.forest v
-  pub rings : (b : ℕ) → IsGroup G.nodes b → InUse s.forest b → Ring s.forest b
+  pub rings : (b : ℕ) → IsGroup G.nodes b → InUse s.forest b → Ring G.nodes s.forest b
+  pub parents : (x : ℕ) → ParentInUse G.nodes s.forest x
   pub numbers : (b : ℕ) → IsGroup G.nodes b → InUseOrFree s.forest b
   pub only_groups_free : (b : ℕ) → 0 < times b s.forest.free → IsGroup G.nodes b
+  pub first_free : FirstFree G.nodes s.forest
   pub mates : MateHolds G s.pairing.mates
 
 -- ---- the states that a run passes through

@@ -14,15 +14,19 @@ use Rattle.entries.proofs.check.Goals as goal
 
 -- what `check_lists` says at the record d, and what this function says of the entries
 abbrev SaidOf : EdgeLists → ℕ → Bool → List ℕ → List ℤ → List ℕ → Result → Type 0
-SaidOf d nodes flag mates duals parents r = judgement_of r ≡ check_counted nodes d.count (take d.count d.first) (take d.count d.second) (take d.count d.weight) flag (certificate_of mates duals parents)
+SaidOf d nodes flag mates duals parents r =
+    judgement_of r ≡ check_counted nodes d.count (take d.count d.first) (take d.count d.second) (take d.count d.weight)
+    flag (certificate_of mates duals parents)
 
 abbrev Said : List EdgeEntry → ℕ → Bool → List ℕ → List ℤ → List ℕ → Result → Type 0
 Said es nodes flag mates duals parents r = judgement_of r ≡ check_of nodes (edges_of es) flag (certificate_of mates duals parents)
 
-said : (es : List EdgeEntry) (d : EdgeLists) → d ≡ lists_of es → (nodes : ℕ) (flag : Bool) (mates : List ℕ) (duals : List ℤ) (parents : List ℕ) (r : Result) → SaidOf d nodes flag mates duals parents r → Said es nodes flag mates duals parents r
+said : (es : List EdgeEntry) (d : EdgeLists) → d ≡ lists_of es → (nodes : ℕ) (flag : Bool) (mates : List ℕ) (duals : List ℤ)
+    (parents : List ℕ) (r : Result) → SaidOf d nodes flag mates duals parents r → Said es nodes flag mates duals parents r
 said es d e nodes flag mates duals parents r told =
     told ∙ ap (λ (m : ℕ). check_counted nodes m (take d.count d.first) (take d.count d.second) (take d.count d.weight) flag C) (sym (count_is es d e))
-    ∙ fronts (λ (fs ss : List ℕ) (ws : List ℤ). check_counted nodes (length es) fs ss ws flag C) es d e (λ h fs ss ws. check_over nodes (length es) fs ss ws flag C h ∙ sym (check_over nodes (length es) _ _ _ flag C h))
+    ∙ fronts (λ (fs ss : List ℕ) (ws : List ℤ). check_counted nodes (length es) fs ss ws flag C) es d e
+    (λ h fs ss ws. check_over nodes (length es) fs ss ws flag C h ∙ sym (check_over nodes (length es) _ _ _ flag C h))
     ∙ check_entries nodes es flag C
   where
     C : Certificate

@@ -6,11 +6,14 @@ use Rattle.entries.proofs.plan_lists.Goals as goal
 pub returns-then-m-gt2048 : goal.returns-then-m-gt2048
 returns-then-m-gt2048 c =
     let a = c.args in
-    refused_plan (length a.mates.now) (length a.duals.now) (length a.parents.now) c.clear.ensures c.clear_duals.ensures c.clear-then-m-gt2048.ensures c.too_many.ensures
-    ∙ sym (plan_over a.n a.s.count (take a.s.count a.s.first) (take a.s.count a.s.second) (take a.s.count a.s.weight) a.max_cardinality (room (length a.mates.now) (length a.duals.now) (length a.parents.now)) a.budget c.if-m-gt2048.true)
+    refused_plan (length a.mates.now) (length a.duals.now) (length a.parents.now) c.requires.mates c.requires.duals c.requires.parents
+    c.too_many.ensures
+    ∙ sym (plan_over a.n a.s.count (take a.s.count a.s.first) (take a.s.count a.s.second) (take a.s.count a.s.weight) a.max_cardinality
+    (room (length a.mates.now) (length a.duals.now) (length a.parents.now)) a.budget c.if-m-gt2048.true)
 
 pub returns : goal.returns
 returns c =
     let a = c.args in
-    c.plan.ensures
-    ∙ sym (plan_within a.n a.s.count (take a.s.count a.s.first) (take a.s.count a.s.second) (take a.s.count a.s.weight) a.max_cardinality (room (length a.mates.now) (length a.duals.now) (length a.parents.now)) a.budget c.if-m-gt2048.false)
+    c.plan.ensures.said
+    ∙ sym (plan_within a.n a.s.count (take a.s.count a.s.first) (take a.s.count a.s.second) (take a.s.count a.s.weight) a.max_cardinality
+    (room (length a.mates.now) (length a.duals.now) (length a.parents.now)) a.budget c.if-m-gt2048.false)

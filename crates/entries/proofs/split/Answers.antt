@@ -8,7 +8,8 @@ use Rattle.entries.specs.declared.EdgeLists.{EdgeLists}
 use Rattle.entries.proofs.Laid.{laid_set, laid_none}
 use Rattle.entries.proofs.split.Goals as goal
 
-made : (es : List EdgeEntry) (i : ℕ) (f s : List ℕ) (w : List ℤ) → held es ≡ i → f ≡ laid first_of i es (replicate 2048 0) → s ≡ laid second_of i es (replicate 2048 0) → w ≡ laid weight_of i es (replicate 2048 (pos 0))
+made : (es : List EdgeEntry) (i : ℕ) (f s : List ℕ) (w : List ℤ) → held es ≡ i → f ≡ laid first_of i es (replicate 2048 0)
+    → s ≡ laid second_of i es (replicate 2048 0) → w ≡ laid weight_of i es (replicate 2048 (pos 0))
     → ◌≡◌ {A = EdgeLists} (record { first = f; second = s; weight = w; count = length es }) (lists_of es)
 unfolding lists_of lists_at
 made es i f s w h x y z = rw (h, x, y, z)
@@ -35,7 +36,8 @@ loop-i-preserved c =
       omega arith,
       rw (l.invariant.1, add-one) (laid_set first_of l.i es (replicate 2048 0) d (omega arith) (omega arith)),
       rw (l.invariant.2, add-one) (laid_set second_of l.i es (replicate 2048 0) d (omega arith) (omega arith)),
-      rw (to_z-of_z w64 (get_or es l.i d).weight (search rules), l.invariant.3, add-one) (laid_set weight_of l.i es (replicate 2048 (pos 0)) d (omega arith) (omega arith)),
+      rw (to_z-of_z w64 (get_or es l.i d).weight (search rules), l.invariant.3, add-one)
+          (laid_set weight_of l.i es (replicate 2048 (pos 0)) d (omega arith) (omega arith)),
     )
 
 pub returns-after-loop-i : goal.returns-after-loop-i

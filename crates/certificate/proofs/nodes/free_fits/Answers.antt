@@ -10,11 +10,3 @@ together a b h l = fits_near (a +ℤ b) (omega (arith, abs_add a b))
 pub overflow_add-result : goal.overflow_add-result
 overflow_add-result c =
     rw (to_z-of_z w64 c.args.dual c.ranges.dual, to_z-of_z w64 c.args.o c.ranges.o) (together c.args.dual c.args.o c.requires.0 c.requires.1)
-
-pub returns-then-mate-eq-MISSING : goal.returns-then-mate-eq-MISSING
-returns-then-mate-eq-MISSING c =
-    rw (to_z-of_z w64 c.args.dual c.ranges.dual, to_z-of_z w64 c.args.o c.ranges.o, eq-eqb _ _ c.if-mate-eq-MISSING.true)
-    (zero_bits (c.args.dual +ℤ c.args.o) (together c.args.dual c.args.o c.requires.0 c.requires.1))
-
-pub returns : goal.returns
-returns c = rw (ne_eqb _ _ c.if-mate-eq-MISSING.false)

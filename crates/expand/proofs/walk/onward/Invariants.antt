@@ -1,4 +1,4 @@
-use Rattle.std.proofs.Common.{◌≡◌}
+use Rattle.std.proofs.Common.{◌≡◌, ◌*◌, ◌-◌}
 use Rattle.laws.specs.Run.{and_then, ok, while}
 use Rattle.steps.specs.State.{Progress}
 use Rattle.steps.specs.Expand.{onward_goes, onward_move}
@@ -7,17 +7,14 @@ use Rattle.expand.specs.Parts.{to_entry}
 use Rattle.expand.specs.Told.{onward_at}
 use Rattle.expand.proofs.walk.onward.Given as goal
 
-abbrev pub decreases-loop-kids : goal.decreases-loop-kids
-decreases-loop-kids l = l.left
-
-abbrev pub invariant-loop-kids : goal.invariant-loop-kids
-invariant-loop-kids l =
+abbrev pub invariant-loop : goal.invariant-loop
+invariant-loop l =
     let b = l.ring.b.0 in
     let forward = l.ring.forward in
     let go = onward_goes b l.entry.0 in
     let step = onward_move l.g b forward in
     record {
-      rest : (at : Progress) → and_then (while go step l.left (onward_at l.place (state_of l.lists at))) (λ o. ok o.state)
+      rest : (at : Progress) → and_then (while go step (2 * l.g.nodes - l.counter) (onward_at l.place (state_of l.lists at))) (λ o. ok o.state)
           ≡ to_entry l.g b forward l.entry.0 l.fn.from (state_of l.fn.lists at);
       size : sized l.lists ≡ sized l.fn.lists;
       kids : l.lists.forest.kids ≡ l.fn.lists.forest.kids;

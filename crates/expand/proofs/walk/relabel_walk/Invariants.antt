@@ -1,4 +1,4 @@
-use Rattle.std.proofs.Common.{◌≡◌}
+use Rattle.std.proofs.Common.{◌≡◌, ◌*◌, ◌-◌}
 use Rattle.laws.specs.Run.{while}
 use Rattle.steps.specs.State.{Progress}
 use Rattle.steps.specs.Expand.{relabel_goes, relabel_move}
@@ -7,15 +7,12 @@ use Rattle.expand.specs.Parts.{to_base}
 use Rattle.expand.specs.Told.{relabel_at}
 use Rattle.expand.proofs.walk.relabel_walk.Given as goal
 
-abbrev pub decreases-loop-k : goal.decreases-loop-k
-decreases-loop-k l = l.left
-
-abbrev pub invariant-loop-k : goal.invariant-loop-k
-invariant-loop-k l =
+abbrev pub invariant-loop : goal.invariant-loop
+invariant-loop l =
     let b = l.ring.b.0 in
     let forward = l.ring.forward in
     record {
-      rest : (at : Progress) → while relabel_goes (relabel_move l.g b forward) l.left (relabel_at l.k.place l.k.p.0 (state_of l.lists at))
+      rest : (at : Progress) → while relabel_goes (relabel_move l.g b forward) (2 * l.g.nodes - l.counter) (relabel_at l.k.place l.k.p.0 (state_of l.lists at))
           ≡ to_base l.g b forward l.fn.from.place l.fn.from.p.0 (state_of l.fn.lists at);
       size : sized l.lists ≡ sized l.fn.lists;
       kids : l.lists.forest.kids ≡ l.fn.lists.forest.kids;

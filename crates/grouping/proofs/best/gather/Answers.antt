@@ -1,6 +1,6 @@
-use Rattle.std.proofs.Common.{rules, ◌∙◌}
+use Rattle.std.proofs.Common.{rules}
 use Rattle.state.specs.Parts.{state_of}
-use Rattle.grouping.proofs.ChildLaws.{gather_lost, gather_kept}
+use Rattle.grouping.proofs.ChildLaws.{gather_lost, gather_ends}
 use Rattle.grouping.proofs.best.gather.Goals as goal
 
 pub returns-in_err-consider_child-clause-said : goal.returns-in_err-consider_child-clause-said
@@ -12,4 +12,5 @@ returns-in_err-consider_child-clause-said c at =
 pub returns-clause-said : goal.returns-clause-said
 returns-clause-said c at =
     let a = c.args in
-    gather_kept a.g.now a.new.0 a.c.0 a.links.now.links (state_of a.lists.now at) _ (c.in_ok-consider_child.ensures.said at) ∙ search rules
+    gather_ends a.g.now a.new.0 a.c.0 a.links.now.links (state_of a.lists.now at) _ _ _ c.put_best.result (c.in_ok-consider_child.ensures.said at)
+    (c.in_ok-clear_best_list.ensures.said at) (c.put_best.ensures.said at)

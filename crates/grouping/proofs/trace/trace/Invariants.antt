@@ -6,11 +6,11 @@ use Rattle.state.specs.Parts.{state_of}
 use Rattle.grouping.specs.Parts.{standing}
 use Rattle.grouping.proofs.trace.trace.Given as goal
 
-abbrev pub decreases-loop-here : goal.decreases-loop-here
-decreases-loop-here l = l.path.room - length l.path.kids
+abbrev pub decreases-loop-stop : goal.decreases-loop-stop
+decreases-loop-stop l = l.path.room - length l.path.kids
 
-abbrev pub invariant-loop-here : goal.invariant-loop-here
-invariant-loop-here l = record {
+abbrev pub invariant-loop-stop : goal.invariant-loop-stop
+invariant-loop-stop l = record {
   rest : (at : Progress)
       → while (trace_goes l.stop.0) (trace_move l.g (state_of l.lists at)) (l.path.room - length l.path.kids) (standing l.here.0 l.path.kids l.path.ends)
       ≡ while (trace_goes l.stop.0) (trace_move l.g (state_of l.lists at)) (2 * l.g.nodes) (standing l.fn.b.0 [] []);

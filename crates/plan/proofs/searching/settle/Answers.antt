@@ -1,8 +1,8 @@
+use Rattle.std.proofs.lemmas.Result.{err_from_is_err_and}
 use Rattle.plan.proofs.SettleLaws.{stops}
 use Rattle.plan.proofs.searching.settle.Goals as goal
 
-pub returns-in-Ok-clause-said : goal.returns-in-Ok-clause-said
-returns-in-Ok-clause-said c = λ room. c.judged.ensures room _ c.in-Ok.ensures.said
-
-pub returns-in-Err-clause-said : goal.returns-in-Err-clause-said
-returns-in-Err-clause-said c = λ room. stops _ _ room _ c.args.request.now.n _ c.search_edges.new.found.certificate _ c.in-Err.ensures.said
+pub returns-in_err-steps-clause-said : goal.returns-in_err-steps-clause-said
+returns-in_err-steps-clause-said c =
+    let p = err_from_is_err_and c.from_residual.result c.from_residual.ensures.1 in
+    λ room. rw (p.1, p.2) (stops _ _ room _ c.args.request.now.n _ c.search_edges.new.found.certificate _ c.in_err-steps.ensures.said)

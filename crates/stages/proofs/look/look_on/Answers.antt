@@ -1,29 +1,61 @@
-use Rattle.std.proofs.Common.{rules, arith, ◌∙◌, ◌≡◌, ◌/◌, slice_index}
+use Rattle.std.proofs.Common.{rules, ap, sym, ◌∙◌, ◌≡◌, ◌∷◌, ◌/◌}
 use Rattle.laws.specs.Run.{ok, at}
 use Rattle.matching.specs.Graph.{is_group}
-use Rattle.steps.specs.State.{Progress, searching}
+use Rattle.steps.specs.State.{State, Progress, searching}
+use Rattle.steps.specs.Steps.{visit, visit_all}
 use Rattle.steps.specs.Stores.{put_best}
 use Rattle.state.specs.Parts.{state_of}
-use Rattle.stages.proofs.Looks.{owned, keen_now}
+use Rattle.stages.specs.Look.{Turns}
+use Rattle.stages.specs.declared.look.Seen.TheVariants.{Pass, Own}
+use Rattle.stages.proofs.Looks.{passed, owned, seen, stored_fine, stored_not, row_on, only_best, keen_now}
 use Rattle.stages.proofs.look.look_on.Goals as goal
 
-pub loop-i-preserved : goal.loop-i-preserved
-loop-i-preserved c =
-    let a = c.args in let l = c.loop-i in let g = a.g.now in
-    let b = c.in-Ok.group.0 in let e = slice_index a.row.now l.i / 2 in let s = c.put_best.new.self in
-    let top : at l.lists.forest.lists.tops a.v.0 ≡ ok b = rw l.invariant.tops c.in-Ok.ensures.said in
-    let put : (here : Progress) → put_best b e (state_of l.lists here) ≡ ok (state_of s here) =
-    λ here. rw (← c.edge.ensures) (c.in-Ok-put_best.ensures.said here) in
-    let here : Progress = record { stage = 0; phase = searching } in
-    let own = c.in-Own.ensures is_group here a.v.0 top l.invariant.keen in
-    let keen = keen_now g b e c.in-Own.k l.lists s here (put here) own.0 own.1 in
+any_time : Progress
+any_time = record { stage = 0; phase = searching }
+
+pub returns-then-is_err-clause-best : goal.returns-then-is_err-clause-best
+returns-then-is_err-clause-best c at =
+    let l = c.loop-p in
+    rw (stored_not c.put_best.result l.lists c.put_best.new.self c.put_best.ensures.kept (sym c.if-is_err.true ∙ c.is_err.ensures.value)) (l.invariant.best at)
+
+pub loop-p-preserved-in-Pass : goal.loop-p-preserved-in-Pass
+loop-p-preserved-in-Pass c =
+    let a = c.args in let l = c.loop-p in let g = a.g.now in let b = c.in-Ok.group.0 in let p = c.in-Some.field-0-0.now in
+    let first : l.left.now ≡ p ∷ c.in-Some.rest.now = search rules in
+    let top : at l.lists.forest.lists.tops a.v.0 ≡ ok b = ap (λ (t : State). at t.forest.tops a.v.0) (l.invariant.best any_time) ∙ c.in-Ok.ensures.said in
     record {
-      past = omega (arith, l.invariant.past);
+      end = row_on a.row.now l.left.now c.in-Some.rest.now p l.invariant.end first;
+      keen = l.invariant.keen;
+      best = l.invariant.best;
+      kids = l.invariant.kids;
+      size = l.invariant.size;
+      rest = λ turns here o.
+          let looked = c.look.ensures turns here a.v.0 top l.invariant.keen in
+          let see = seen c.look.result Pass g b (p / 2) (visit turns g a.v.0 p) l.lists here looked c.in-Pass.ensures in
+          passed turns g a.v.0 p c.in-Some.rest.now (state_of l.lists here) o see
+          ∙ rw (← first) (l.invariant.rest turns here o);
+    }
+
+pub loop-p-preserved : goal.loop-p-preserved
+loop-p-preserved c =
+    let a = c.args in let l = c.loop-p in let g = a.g.now in let b = c.in-Ok.group.0 in let p = c.in-Some.field-0-0.now in let s = c.put_best.new.self in
+    let first : l.left.now ≡ p ∷ c.in-Some.rest.now = search rules in
+    let top : at l.lists.forest.lists.tops a.v.0 ≡ ok b = ap (λ (t : State). at t.forest.tops a.v.0) (l.invariant.best any_time) ∙ c.in-Ok.ensures.said in
+    let put : (here : Progress) → put_best b (p / 2) (state_of l.lists here) ≡ ok (state_of s here) =
+    λ here. rw (← c.edge.ensures) (stored_fine (put_best b c.edge.result.0 (state_of l.lists here)) c.put_best.result (state_of s here)
+    (c.put_best.ensures.said here) (sym c.if-is_err.false ∙ c.is_err.ensures.value)) in
+    let see = λ (turns : Turns) (here : Progress).
+    seen c.look.result (Own c.in-Own.k) g b (p / 2) (visit turns g a.v.0 p) l.lists here (c.look.ensures turns here a.v.0 top l.invariant.keen)
+    c.in-Own.ensures in
+    let own = see is_group any_time in
+    let keen = keen_now g b (p / 2) c.in-Own.k l.lists s any_time (put any_time) own.0 own.1 in
+    record {
+      end = row_on a.row.now l.left.now c.in-Some.rest.now p l.invariant.end first;
       keen = search (rules, keen);
-      tops = search rules;
+      best = λ at. only_best b (p / 2) l.lists s a.lists.now at (l.invariant.best at) (put at);
       kids = search rules;
       size = search rules;
       rest = λ turns here o.
-          let seen = (c.in-Own.ensures turns here a.v.0 top l.invariant.keen).2 in
-          owned turns g a.v.0 l.i a.row.now (state_of l.lists here) (state_of s here) o c.loop-i-test.true (seen ∙ put here) ∙ l.invariant.rest turns here o;
+          owned turns g a.v.0 p c.in-Some.rest.now (state_of l.lists here) (state_of s here) o ((see turns here).2 ∙ put here)
+          ∙ rw (← first) (l.invariant.rest turns here o);
     }

@@ -7,8 +7,3 @@ pub invariant_of-self : goal.invariant_of-self
 invariant_of-self c =
     let s = c.self.inside in
     rw (c.store.ensures.told, to_z-of_z w64 c.args.d c.ranges.d) (dual_stored s.n c.args.i c.args.d s.mates.now s.duals.now c.self.invariant c.requires)
-
-pub invariant_of-self-2 : goal.invariant_of-self-2
-invariant_of-self-2 c =
-    let s = c.self.inside in
-    rw (c.store.ensures.told, to_z-of_z w64 c.args.d c.ranges.d) (dual_stored s.n c.args.i c.args.d s.mates.now s.duals.now c.self.invariant c.requires)

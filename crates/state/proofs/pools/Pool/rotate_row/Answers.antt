@@ -21,7 +21,8 @@ returns-then-i-count-clause-said c r q =
     let s = c.self.inside in
     let l : c.args.b < 2 * s.n = omega (arith, c.if-b-self.false, c.if-g-n.false) in
     let m = c.min-count.result in
-    let w = rw (rows_told c.self.view_is) at (row_is s.n c.args.b m c.args.i s.counts.now s.places.now c.self.invariant c.if-b-self.false l c.min-count.ensures) in
+    let w = rw (rows_told c.self.view_is) at
+    (row_is s.n c.args.b m c.args.i s.counts.now s.places.now c.self.invariant c.if-b-self.false l c.min-count.ensures) in
     let z = row_size s.n c.args.b m c.args.i s.counts.now s.places.now c.self.invariant c.if-b-self.false l c.min-count.ensures in
     let e = ok_inj (sym q ∙ w) in turned_past _ c.args.b c.args.i r q (rw e (omega (arith, z, c.if-i-count.true)))
 
@@ -30,6 +31,7 @@ returns-clause-said c r q =
     let s = c.self.inside in
     let l : c.args.b < 2 * s.n = omega (arith, c.if-b-self.false, c.if-g-n.false) in
     let m = c.min-count.result in
-    let w = rw (rows_told c.self.view_is) at (row_is s.n c.args.b m c.args.i s.counts.now s.places.now c.self.invariant c.if-b-self.false l c.min-count.ensures) in
+    let w = rw (rows_told c.self.view_is) at
+    (row_is s.n c.args.b m c.args.i s.counts.now s.places.now c.self.invariant c.if-b-self.false l c.min-count.ensures) in
     let p = row_turned s.n c.args.b m c.args.i s.counts.now s.places.now c.self.invariant c.if-b-self.false l c.min-count.ensures in
     rw (ok_inj (sym q ∙ w), ← rows_told c.self.view_is, c.rotate_at.ensures) p

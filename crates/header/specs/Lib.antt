@@ -1,0 +1,2 @@
+-- The numbers of the C interface.
+pub mod Numbers

@@ -1,8 +1,0 @@
-use Rattle.std.proofs.Common.{length, ◌-◌, ◌≤◌, ◌≡◌}
-use Rattle.pair.proofs.read_input.Given as goal
-
-abbrev pub invariant-loop-size : goal.invariant-loop-size
-invariant-loop-size g l = (l.size ≤ length l.file) × (length l.file ≡ length l.initial.file)
-
-abbrev pub decreases-loop-size : goal.decreases-loop-size
-decreases-loop-size g l = length l.initial.file - l.size
