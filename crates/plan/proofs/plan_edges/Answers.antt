@@ -9,4 +9,4 @@ returns-in-Ok c =
     ∙ c.in-Ok.ensures.said _
 
 pub returns-in-Err : goal.returns-in-Err
-returns-in-Err c = stopped_cleared _ _ _ _ c.requires _ _ _ c.into.ensures ∙ c.in-Err.ensures.said _
+returns-in-Err c = stopped_cleared _ _ _ _ c.requires _ _ _ c.from.ensures ∙ c.in-Err.ensures.said _
