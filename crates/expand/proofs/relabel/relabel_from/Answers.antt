@@ -9,6 +9,6 @@ returns-clause-said c at =
     let a = c.args in
     let two : c.in_ok-l.l ≡ 2 = grind (arith, common_steps) in
     let here : c.in_ok-t.t ≡ a.c = grind (arith, common_steps) in
-    rw (relabel_onto a.g.now a.c a.v _ _ (state_of a.lists.now at) _ c.in_ok-l.ensures.said two c.in_ok-t.ensures.said here
-    (c.in_ok-put_label.ensures.said at))
+    rw (relabel_onto a.g.now a.c a.v _ _ (state_of a.lists.now at) _ (rw c.number.ensures at c.in_ok-l.ensures.said) two
+    c.in_ok-t.ensures.said here (rw c.number-2.ensures at (c.in_ok-put_label.ensures.said at)))
     (c.pass_on.ensures.said at)

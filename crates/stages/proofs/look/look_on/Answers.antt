@@ -20,8 +20,8 @@ returns-then-is_err-clause-best c at =
 
 pub loop-p-preserved-in-Pass : goal.loop-p-preserved-in-Pass
 loop-p-preserved-in-Pass c =
-    let a = c.args in let l = c.loop-p in let g = a.g.now in let b = c.in-Ok.group in let p = c.in-Some.field-0-0.now in
-    let first : l.left.now ≡ p ∷ c.in-Some.rest.now = search rules in
+    let a = c.args in let l = c.loop-p in let g = a.g.now in let b = c.in-Ok.group in let p = c.of-p.result in
+    let first : l.left.now ≡ p ∷ c.in-Some.rest.now = rw c.of-p.ensures (search rules) in
     let top : at l.lists.forest.lists.tops a.v ≡ ok b = ap (λ (t : State). at t.forest.tops a.v) (l.invariant.best any_time) ∙ c.in-Ok.ensures.said in
     record {
       end = row_on a.row.now l.left.now c.in-Some.rest.now p l.invariant.end first;
@@ -38,12 +38,12 @@ loop-p-preserved-in-Pass c =
 
 pub loop-p-preserved : goal.loop-p-preserved
 loop-p-preserved c =
-    let a = c.args in let l = c.loop-p in let g = a.g.now in let b = c.in-Ok.group in let p = c.in-Some.field-0-0.now in let s = c.put_best.new.self in
-    let first : l.left.now ≡ p ∷ c.in-Some.rest.now = search rules in
+    let a = c.args in let l = c.loop-p in let g = a.g.now in let b = c.in-Ok.group in let p = c.of-p.result in let s = c.put_best.new.self in
+    let first : l.left.now ≡ p ∷ c.in-Some.rest.now = rw c.of-p.ensures (search rules) in
     let top : at l.lists.forest.lists.tops a.v ≡ ok b = ap (λ (t : State). at t.forest.tops a.v) (l.invariant.best any_time) ∙ c.in-Ok.ensures.said in
     let put : (here : Progress) → put_best b (p / 2) (state_of l.lists here) ≡ ok (state_of s here) =
     λ here. rw (← c.edge.ensures) (stored_fine (put_best b c.edge.result (state_of l.lists here)) c.put_best.result (state_of s here)
-    (c.put_best.ensures.said here) (sym c.if-is_err.false ∙ c.is_err.ensures.value)) in
+    (rw c.number-2.ensures at (c.put_best.ensures.said here)) (sym c.if-is_err.false ∙ c.is_err.ensures.value)) in
     let see = λ (turns : Turns) (here : Progress).
     seen c.look.result (Own c.in-Own.k) g b (p / 2) (visit turns g a.v p) l.lists here (c.look.ensures turns here a.v top l.invariant.keen)
     c.in-Own.ensures in
