@@ -34,7 +34,10 @@ pub struct Delta {
 fn less_than(d: i64, best: &Option<Delta>) -> bool
     ensures { result ≡ less_than_of d (least_of best.now) }
 {
-    best.is_none_or(|b| d < b.amount)
+    match best {
+        Some(b) => d < b.amount,
+        None => true,
+    }
 }
 
 // The least of a list that is not empty.
@@ -239,5 +242,6 @@ pub fn choose(g: &Graph, lists: &Lists, flag: bool) -> Result<Delta, Fault>
     let two = delta_two(g, lists, one)?;
     let three = delta_three(g, lists, two)?;
     let four = delta_four(g, lists, three)?;
-    delta_last(g, lists, four)
+    let Delta { amount, by } = delta_last(g, lists, four)?;
+    Ok(Delta { amount, by })
 }

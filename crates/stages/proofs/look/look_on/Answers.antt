@@ -43,7 +43,7 @@ loop-p-preserved c =
     let top : at l.lists.forest.lists.tops a.v ≡ ok b = ap (λ (t : State). at t.forest.tops a.v) (l.invariant.best any_time) ∙ c.in-Ok.ensures.said in
     let put : (here : Progress) → put_best b (p / 2) (state_of l.lists here) ≡ ok (state_of s here) =
     λ here. rw (← c.edge.ensures) (stored_fine (put_best b c.edge.result (state_of l.lists here)) c.put_best.result (state_of s here)
-    (rw c.number-2.ensures at (c.put_best.ensures.said here)) (sym c.if-is_err.false ∙ c.is_err.ensures.value)) in
+    (rw c.number-in-Own.ensures at (c.put_best.ensures.said here)) (sym c.if-is_err.false ∙ c.is_err.ensures.value)) in
     let see = λ (turns : Turns) (here : Progress).
     seen c.look.result (Own c.in-Own.k) g b (p / 2) (visit turns g a.v p) l.lists here (c.look.ensures turns here a.v top l.invariant.keen)
     c.in-Own.ensures in
