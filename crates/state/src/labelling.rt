@@ -10,7 +10,7 @@ ghost use Rattle.state.specs.Parts.{whole, queued, with_queue_list};
 ghost use Rattle.state.specs.Pops.{Pops, is_nil};
 
 use crate::forest::Forest;
-use crate::pools::{Pool, Stack};
+use crate::pools::{Pool, Stack, copy};
 use edges::graph::Graph;
 use numbers::faults::{Fault, must, read, store};
 use numbers::{Edge, End, Group, MISSING, Node};
@@ -129,7 +129,7 @@ impl<'a> Labelling<'a> {
         requires { length to.old ≡ 2 * self.now.size.nodes }
         ensures { to.new ≡ self.now.lists.labels }
     {
-        to.copy_from_slice(self.labels);
+        copy(self.labels, to);
     }
 
     // Node v goes on the end of the queue, which holds at most 2n.
