@@ -6,6 +6,7 @@ ghost use Rattle.steps.specs.Augment.{through_label1, through_label2, trail_move
 ghost use Rattle.numbers.specs.Answers.{Agrees};
 ghost use Rattle.state.specs.Parts.{state_of, sized};
 ghost use Rattle.augment.specs.Trails.{Reaches, Leads, Moves, on_trail};
+ghost use Rattle.state.specs.Keeps.{Turned};
 
 use crate::turn::augment_top;
 use edges::graph::Graph;
@@ -25,6 +26,7 @@ pub(crate) struct Place {
 fn through_one(g: &Graph, lists: &mut Lists, v: Node, p: End) -> Result<End, Fault>
     ensures said { (at : Progress) → Reaches (through_label1 is_group g.now v p (state_of lists.old at)) result (state_of lists.new at) }
     ensures size { sized lists.new ≡ sized lists.old }
+    ensures others { Turned lists.old lists.new }
 {
     let b = lists.top(v)?;
     let l = lists.label(b.number())?;
@@ -42,6 +44,7 @@ fn through_one(g: &Graph, lists: &mut Lists, v: Node, p: End) -> Result<End, Fau
 fn through_two(g: &Graph, lists: &mut Lists, e: End) -> Result<Place, Fault>
     ensures said { (at : Progress) → Leads (through_label2 is_group g.now e (state_of lists.old at)) result (state_of lists.new at) }
     ensures size { sized lists.new ≡ sized lists.old }
+    ensures others { Turned lists.old lists.new }
 {
     let t = g.endpoint(e)?;
     let b = lists.top(t)?;
@@ -63,6 +66,7 @@ fn through_two(g: &Graph, lists: &mut Lists, e: End) -> Result<Place, Fault>
 fn trail_move(g: &Graph, lists: &mut Lists, here: Place) -> Result<Option<Place>, Fault>
     ensures said { (at : Progress) → Moves here (trail_move_of is_group g.now (on_trail here.v here.p false (state_of lists.old at))) result (state_of lists.new at) }
     ensures size { sized lists.new ≡ sized lists.old }
+    ensures others { Turned lists.old lists.new }
 {
     let e = through_one(g, lists, here.v, here.p)?;
     if e.is_missing() {
@@ -77,6 +81,7 @@ fn trail_move(g: &Graph, lists: &mut Lists, here: Place) -> Result<Option<Place>
 pub(crate) fn match_trail(g: &Graph, lists: &mut Lists, v: Node, p: End) -> Result<(), Fault>
     ensures said { (at : Progress) → Agrees (match_trail_of is_group g.now v p (state_of lists.old at)) result (state_of lists.new at) }
     ensures size { sized lists.new ≡ sized lists.old }
+    ensures others { Turned lists.old lists.new }
 {
     let mut here = Place { v, p };
     for _ in 0..g.numbers() {

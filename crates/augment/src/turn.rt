@@ -8,6 +8,7 @@ ghost use Rattle.steps.specs.Augment.{child_holding as child_holding_of, match_e
 ghost use Rattle.numbers.specs.Answers.{Agrees, Answers};
 ghost use Rattle.state.specs.Parts.{state_of, sized};
 ghost use Rattle.augment.specs.Turns.{below, at_place, round, Places};
+ghost use Rattle.state.specs.Keeps.{Turned};
 
 use edges::graph::Graph;
 use numbers::faults::{Fault, must, present, read};
@@ -39,6 +40,7 @@ fn child_holding(g: &Graph, lists: &Lists, b: Group, v: Node) -> Result<Group, F
 fn match_end(g: &Graph, lists: &mut Lists, p: End) -> Result<(), Fault>
     ensures said { (at : Progress) → Agrees (match_end_of g.now p (state_of lists.old at)) result (state_of lists.new at) }
     ensures size { sized lists.new ≡ sized lists.old }
+    ensures others { Turned lists.old lists.new }
 {
     let a = g.endpoint(p)?;
     let b = g.endpoint(p.beside())?;
@@ -71,6 +73,7 @@ fn first_from(kids: &[u16], i: u16) -> Result<Group, Fault>
 fn reroot(lists: &mut Lists, b: Group, i: u16, v: Node) -> Result<(), Fault>
     ensures said { (at : Progress) → Agrees (reroot_of b i v (state_of lists.old at)) result (state_of lists.new at) }
     ensures size { sized lists.new ≡ sized lists.old }
+    ensures others { Turned lists.old lists.new }
 {
     // Read before the rings turn; that there is no child is a fault only after.
     let kids = lists.children(b)?;
@@ -90,6 +93,7 @@ fn reroot(lists: &mut Lists, b: Group, i: u16, v: Node) -> Result<(), Fault>
 fn turn_child(g: &Graph, lists: &mut Lists, depth: u16, c: Group, p: End) -> Result<(), Fault>
     ensures said { (at : Progress) → Agrees (turn_child_of is_group g.now (below g.now depth) c p (state_of lists.old at)) result (state_of lists.new at) }
     ensures size { sized lists.new ≡ sized lists.old }
+    ensures others { Turned lists.old lists.new }
 {
     let v = g.endpoint(p)?;
     if c.number() >= g.nodes() {
@@ -114,6 +118,7 @@ fn turn_two(
     ensures said { (at : Progress) → Places (turning_move is_group g.now (below g.now depth) b forward (at_place place (state_of lists.old at))) result (state_of lists.new at) }
     ensures size { sized lists.new ≡ sized lists.old }
     ensures near { IfOk result (λ j. j < 65535) }
+    ensures others { Turned lists.old lists.new }
 {
     let kids = lists.children(b)?;
     let ends = lists.ring_ends(b)?;
@@ -138,6 +143,7 @@ fn turn_ring(g: &Graph, lists: &mut Lists, depth: u16, b: Group, i: u16) -> Resu
     requires { i < 65535 }
     ensures said { (at : Progress) → Agrees (round g.now depth b (is_odd i) (2 * g.now.nodes) i (state_of lists.old at)) result (at_place 0 (state_of lists.new at)) }
     ensures size { sized lists.new ≡ sized lists.old }
+    ensures others { Turned lists.old lists.new }
 {
     let mut place = i;
     for _ in 0..g.numbers() {
@@ -155,6 +161,7 @@ fn turn_ring(g: &Graph, lists: &mut Lists, depth: u16, b: Group, i: u16) -> Resu
 fn turn_level(g: &Graph, lists: &mut Lists, depth: u16, b: Group, v: Node) -> Result<(), Fault>
     ensures said { (at : Progress) → Agrees (turn_group_of is_group g.now (below g.now depth) b v (state_of lists.old at)) result (state_of lists.new at) }
     ensures size { sized lists.new ≡ sized lists.old }
+    ensures others { Turned lists.old lists.new }
 {
     let t = child_holding(g, lists, b, v)?;
     if t.number() >= g.nodes() {
@@ -172,6 +179,7 @@ fn turn_level(g: &Graph, lists: &mut Lists, depth: u16, b: Group, v: Node) -> Re
 fn turn_group(g: &Graph, lists: &mut Lists, depth: u16, b: Group, v: Node) -> Result<(), Fault>
     ensures said { (at : Progress) → Agrees (augment_group is_group g.now depth b v (state_of lists.old at)) result (state_of lists.new at) }
     ensures size { sized lists.new ≡ sized lists.old }
+    ensures others { Turned lists.old lists.new }
 {
     if depth == 0 {
         return Err(Fault);
@@ -184,6 +192,7 @@ fn turn_group(g: &Graph, lists: &mut Lists, depth: u16, b: Group, v: Node) -> Re
 pub(crate) fn augment_top(g: &Graph, lists: &mut Lists, b: Group, v: Node) -> Result<(), Fault>
     ensures said { (at : Progress) → Agrees (augment_top_of is_group g.now b v (state_of lists.old at)) result (state_of lists.new at) }
     ensures size { sized lists.new ≡ sized lists.old }
+    ensures others { Turned lists.old lists.new }
 {
     if b.number() >= g.nodes() {
         turn_group(g, lists, g.nodes(), b, v)?;

@@ -19,10 +19,10 @@ edges_over [] ws = []
 pub record GraphFits (n : ℕ) (ends : List ℕ) (weights : List ℤ) (offsets far : List ℕ) : Type 0 where
   pub nodes : n ≤ 512
   pub pairs : length ends ≡ 2 * length weights
-  pub few : length weights ≤ 16384
+  pub few : length weights ≤ 32767
   pub near : Near 1000000000 weights
   pub starts : length offsets ≡ n + 1
-  pub table : length far ≤ 32768
+  pub table : length far ≤ 65535
   pub neighbours : Neighbours n ends offsets far
 
 -- the run x answers an edge

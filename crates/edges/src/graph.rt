@@ -94,7 +94,7 @@ impl<'a> Graph<'a> {
     // Edge e. Its ends fit 16 bits.
     pub fn edge(&self, e: Edge) -> Result<EdgeAt, Fault>
         ensures said { AnswersEdgeAt (at self.now.edges e) result }
-        ensures few { Within e 16384 result }
+        ensures few { Within e 32767 result }
     {
         let k = e.number() as usize;
         if k >= self.weights.len() {
@@ -143,7 +143,7 @@ impl<'a> Graph<'a> {
     pub fn far_ends(&self, v: Node) -> &[u16]
         requires { v < self.now.nodes }
         ensures said { result.now ≡ far_ends_of self.now v }
-        ensures few { length result.now ≤ 32768 }
+        ensures few { length result.now ≤ 65535 }
     {
         let k = v.number() as usize;
         let from = self.offsets[k] as usize;

@@ -6,6 +6,7 @@ ghost use Rattle.steps.specs.Expand.{bring_top as bring_top_of, keep_child as ke
 ghost use Rattle.numbers.specs.Answers.{Agrees};
 ghost use Rattle.state.specs.Parts.{state_of, sized, size_of};
 ghost use Rattle.expand.specs.Parts.{free_children as free_children_of, take_apart as take_apart_of};
+ghost use Rattle.state.specs.Keeps.{ButTops, Closed, Expanded, InForest};
 
 use crate::walk::relabel_ring;
 use edges::graph::Graph;
@@ -20,6 +21,7 @@ fn bring_top(lists: &mut Lists, c: Group, nodes: &[u16]) -> Result<(), Fault>
     ensures said { (at : Progress) → Agrees (for_each (bring_top_of c) nodes.now (state_of lists.old at)) result (state_of lists.new at) }
     ensures size { sized lists.new ≡ sized lists.old }
     ensures kids { lists.new.forest.kids ≡ lists.old.forest.kids }
+    ensures others { InForest lists.old lists.new × ButTops lists.old.forest lists.new.forest }
 {
     for &v in nodes {
         lists.put_top(Node::of(v), c)?;
@@ -35,6 +37,7 @@ fn keep_child(g: &Graph, lists: &mut Lists, nodes: &mut Stack, c: Group) -> Resu
     ensures size { sized lists.new ≡ sized lists.old }
     ensures kids { lists.new.forest.kids ≡ lists.old.forest.kids }
     ensures room { nodes.new.room ≡ nodes.old.room }
+    ensures others { InForest lists.old lists.new × ButTops lists.old.forest lists.new.forest }
 {
     nodes.clear();
     lists.leaves(g, c, nodes)?;
@@ -48,6 +51,7 @@ fn retire(g: &Graph, lists: &mut Lists, b: Group) -> Result<(), Fault>
     ensures said { (at : Progress) → Agrees (retire_of g.now b (state_of lists.old at)) result (state_of lists.new at) }
     ensures size { sized lists.new ≡ sized lists.old }
     ensures kids { lists.new.forest.kids ≡ lists.old.forest.kids }
+    ensures others { Closed lists.old lists.new }
 {
     lists.put_label(b.number(), MISSING)?;
     lists.put_label_end(b.number(), End::of(MISSING))?;
@@ -74,6 +78,7 @@ fn free_group(
     ensures size { sized lists.new ≡ sized lists.old }
     ensures kids { lists.new.forest.kids ≡ lists.old.forest.kids }
     ensures room { nodes.new.room ≡ nodes.old.room }
+    ensures others { Expanded last lists.old lists.new }
 {
     if last {
         let d = lists.dual(c.number())?;
@@ -100,6 +105,7 @@ fn free_child(
     ensures size { sized lists.new ≡ sized lists.old }
     ensures kids { lists.new.forest.kids ≡ lists.old.forest.kids }
     ensures room { nodes.new.room ≡ nodes.old.room }
+    ensures others { Expanded last lists.old lists.new }
 {
     lists.put_parent(c, Group::of(MISSING))?;
     if c.number() < g.nodes() {
@@ -124,6 +130,7 @@ fn free_children(
     ensures size { sized lists.new ≡ sized lists.old }
     ensures kids { lists.new.forest.kids ≡ lists.old.forest.kids }
     ensures room { nodes.new.room ≡ nodes.old.room }
+    ensures others { Expanded last lists.old lists.new }
 {
     let m = lists.child_count(b)?;
     for k in 0..m {
@@ -149,6 +156,7 @@ fn take_apart(
     ensures size { sized lists.new ≡ sized lists.old }
     ensures kids { lists.new.forest.kids ≡ lists.old.forest.kids }
     ensures room { nodes.new.room ≡ nodes.old.room }
+    ensures others { Expanded last lists.old lists.new }
 {
     free_children(g, lists, nodes, depth, last, b)?;
     let l = lists.label(b.number())?;
@@ -174,6 +182,7 @@ fn expand_group(
     ensures size { sized lists.new ≡ sized lists.old }
     ensures kids { lists.new.forest.kids ≡ lists.old.forest.kids }
     ensures room { nodes.new.room ≡ nodes.old.room }
+    ensures others { Expanded last lists.old lists.new }
 {
     if depth == 0 {
         return Err(Fault);
@@ -194,6 +203,7 @@ pub fn expand(
     ensures said { (at : Progress) → Agrees (expand_top g.now last b (state_of lists.old at)) result (state_of lists.new at) }
     ensures size { sized lists.new ≡ sized lists.old }
     ensures room { nodes.new.room ≡ nodes.old.room }
+    ensures others { Expanded last lists.old lists.new }
 {
     expand_group(g, lists, nodes, g.nodes(), last, b)
 }

@@ -5,6 +5,7 @@ ghost use Rattle.steps.specs.Expand.{unlabel as unlabel_of, relabel_base as rela
 ghost use Rattle.numbers.specs.Answers.{Agrees, Answers};
 ghost use Rattle.state.specs.Parts.{state_of, sized, size_of};
 ghost use Rattle.expand.specs.Parts.{pass_on as pass_on_of, onward_child as onward_child_of};
+ghost use Rattle.state.specs.Keeps.{Relabelled};
 
 use edges::graph::Graph;
 use numbers::faults::{Fault, must, present};
@@ -18,6 +19,7 @@ pub(crate) fn unlabel(g: &Graph, lists: &mut Lists, p: End) -> Result<(), Fault>
     ensures said { (at : Progress) → Agrees (unlabel_of g.now p (state_of lists.old at)) result (state_of lists.new at) }
     ensures size { sized lists.new ≡ sized lists.old }
     ensures kids { lists.new.forest.kids ≡ lists.old.forest.kids }
+    ensures others { Relabelled lists.old lists.new }
 {
     let w = g.endpoint(p.beside())?;
     lists.put_label(w.number(), 0)
@@ -29,6 +31,7 @@ pub(crate) fn relabel_base(g: &Graph, lists: &mut Lists, base: Group, p: End) ->
     ensures said { (at : Progress) → Agrees (relabel_base_of g.now base p (state_of lists.old at)) result (state_of lists.new at) }
     ensures size { sized lists.new ≡ sized lists.old }
     ensures kids { lists.new.forest.kids ≡ lists.old.forest.kids }
+    ensures others { Relabelled lists.old lists.new }
 {
     let v = g.endpoint(p.beside())?;
     lists.put_label(v.number(), 2)?;
@@ -62,6 +65,7 @@ fn pass_on(g: &Graph, lists: &mut Lists, c: Group, v: Node) -> Result<(), Fault>
     ensures said { (at : Progress) → Agrees (pass_on_of g.now c v (state_of lists.old at)) result (state_of lists.new at) }
     ensures size { sized lists.new ≡ sized lists.old }
     ensures kids { lists.new.forest.kids ≡ lists.old.forest.kids }
+    ensures others { Relabelled lists.old lists.new }
 {
     let m = lists.base_mate(c)?;
     present(m.number())?;
@@ -78,6 +82,7 @@ fn relabel_from(g: &Graph, lists: &mut Lists, c: Group, v: Node) -> Result<(), F
     ensures said { (at : Progress) → Agrees (relabel_from_of g.now c v (state_of lists.old at)) result (state_of lists.new at) }
     ensures size { sized lists.new ≡ sized lists.old }
     ensures kids { lists.new.forest.kids ≡ lists.old.forest.kids }
+    ensures others { Relabelled lists.old lists.new }
 {
     let l = lists.label(v.number())?;
     must(l == 2)?;
@@ -95,6 +100,7 @@ fn relabel_reached(g: &Graph, lists: &mut Lists, nodes: &mut Stack, c: Group) ->
     ensures size { sized lists.new ≡ sized lists.old }
     ensures kids { lists.new.forest.kids ≡ lists.old.forest.kids }
     ensures room { nodes.new.room ≡ nodes.old.room }
+    ensures others { Relabelled lists.old lists.new }
 {
     nodes.clear();
     lists.leaves(g, c, nodes)?;
@@ -119,6 +125,7 @@ pub(crate) fn onward_child(
     ensures size { sized lists.new ≡ sized lists.old }
     ensures kids { lists.new.forest.kids ≡ lists.old.forest.kids }
     ensures room { nodes.new.room ≡ nodes.old.room }
+    ensures others { Relabelled lists.old lists.new }
 {
     let l = lists.label(c.number())?;
     if l != 1 {

@@ -6,6 +6,7 @@ ghost use Rattle.numbers.specs.Answers.{Agrees};
 ghost use Rattle.state.specs.Parts.{state_of, sized, size_of};
 ghost use Rattle.expand.specs.Parts.{to_base, to_entry};
 ghost use Rattle.expand.specs.Told.{Links, LinksOn, Relabels, relabel_at};
+ghost use Rattle.state.specs.Keeps.{Relabelled};
 
 use crate::relabel::{onward_child, relabel_base, unlabel};
 use edges::graph::Graph;
@@ -69,6 +70,7 @@ fn relabel_move(g: &Graph, lists: &mut Lists, ring: &Round, k: &Hop) -> Result<H
     ensures said { (at : Progress) → Relabels (relabel_move_of g.now ring.now.b ring.now.forward (relabel_at k.now.place k.now.p (state_of lists.old at))) result (state_of lists.new at) }
     ensures size { sized lists.new ≡ sized lists.old }
     ensures kids { lists.new.forest.kids ≡ lists.old.forest.kids }
+    ensures others { Relabelled lists.old lists.new }
 {
     let ends = lists.ring_ends(ring.b)?;
     // Both ends are read before the labels change; that there is none is a fault only where the walk comes to it.
@@ -92,6 +94,7 @@ fn relabel_walk(g: &Graph, lists: &mut Lists, ring: &Round, from: Hop) -> Result
     ensures said { (at : Progress) → Relabels (to_base g.now ring.now.b ring.now.forward from.place from.p (state_of lists.old at)) result (state_of lists.new at) }
     ensures size { sized lists.new ≡ sized lists.old }
     ensures kids { lists.new.forest.kids ≡ lists.old.forest.kids }
+    ensures others { Relabelled lists.old lists.new }
 {
     let mut k = from;
     for _ in 0..g.numbers() {
@@ -119,6 +122,7 @@ fn onward(
     ensures size { sized lists.new ≡ sized lists.old }
     ensures kids { lists.new.forest.kids ≡ lists.old.forest.kids }
     ensures room { nodes.new.room ≡ nodes.old.room }
+    ensures others { Relabelled lists.old lists.new }
 {
     let mut place = from;
     for _ in 0..g.numbers() {
@@ -147,6 +151,7 @@ pub(crate) fn relabel_ring(
     ensures size { sized lists.new ≡ sized lists.old }
     ensures kids { lists.new.forest.kids ≡ lists.old.forest.kids }
     ensures room { nodes.new.room ≡ nodes.old.room }
+    ensures others { Relabelled lists.old lists.new }
 {
     let e = lists.label_end(b)?;
     present(e.number())?;

@@ -6,6 +6,7 @@ ghost use Rattle.numbers.specs.Answers.{Agrees};
 ghost use Rattle.state.specs.Parts.{state_of, sized, size_of};
 ghost use Rattle.grouping.specs.Parts.{added_of};
 ghost use Rattle.grouping.specs.Rooms.{RoomFits};
+ghost use Rattle.state.specs.Keeps.{Added};
 
 use crate::best::best_edges;
 use crate::ring::{meet, ring, ring_up};
@@ -29,6 +30,7 @@ fn add_parts(
     ensures said { (at : Progress) → Agrees (added_of g.now base e (state_of lists.old at)) result (state_of lists.new at) }
     ensures size { sized lists.new ≡ sized lists.old }
     ensures fits { RoomFits g.now.nodes room.new }
+    ensures others { Added lists.old lists.new }
 {
     let m = meet(g, lists, base, e)?;
     ring(g, lists, room, &m, e)?;
@@ -53,6 +55,7 @@ pub fn add_group(
     ensures said { (at : Progress) → Agrees (add_group_of g.now base e (state_of lists.old at)) result (state_of lists.new at) }
     ensures size { sized lists.new ≡ sized lists.old }
     ensures fits { RoomFits g.now.nodes room.new }
+    ensures others { Added lists.old lists.new }
 {
     add_parts(g, lists, room, base, e)
 }

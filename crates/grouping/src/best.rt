@@ -8,6 +8,7 @@ ghost use Rattle.numbers.specs.Answers.{Agrees, Answers};
 ghost use Rattle.state.specs.Parts.{state_of, sized, size_of};
 ghost use Rattle.grouping.specs.Parts.{gathered};
 ghost use Rattle.grouping.specs.Rooms.{RoomFits};
+ghost use Rattle.state.specs.Keeps.{ButGathered, InLabels};
 
 use crate::consider::consider_child;
 use crate::links::Links;
@@ -33,6 +34,7 @@ pub fn gather(
     ensures links { links.new.nodes ≡ links.old.nodes }
     ensures room { nodes.new.room ≡ nodes.old.room }
     ensures size { sized lists.new ≡ sized lists.old }
+    ensures others { InLabels lists.old lists.new × ButGathered lists.old.labels lists.new.labels }
 {
     consider_child(g, lists, links, nodes, new, c)?;
     lists.clear_best_list(c)?;
@@ -53,6 +55,7 @@ pub fn gather_all(
     ensures links { links.new.nodes ≡ links.old.nodes }
     ensures room { nodes.new.room ≡ nodes.old.room }
     ensures size { sized lists.new ≡ sized lists.old }
+    ensures others { InLabels lists.old lists.new × ButGathered lists.old.labels lists.new.labels }
 {
     for &c in kids {
         gather(g, lists, links, nodes, new, Group::of(c))?;
@@ -90,6 +93,7 @@ pub fn best_edges(g: &Graph, lists: &mut Lists, room: &mut Room, new: Group) -> 
     ensures said { (at : Progress) → Agrees (best_edges_of g.now new room.old.ring.kids (state_of lists.old at)) result (state_of lists.new at) }
     ensures size { sized lists.new ≡ sized lists.old }
     ensures fits { RoomFits g.now.nodes room.new }
+    ensures others { InLabels lists.old lists.new × ButGathered lists.old.labels lists.new.labels }
 {
     room.links.clear();
     gather_all(

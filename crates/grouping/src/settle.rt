@@ -1,11 +1,13 @@
 // What a new group takes in: its label, label end and dual, and the nodes of its children.
-ghost use Rattle.std.specs.Prelude.{◌≡◌, ◌*◌};
+ghost use Rattle.std.specs.Prelude.{ℕ, ◌≡◌, ◌*◌};
 ghost use Rattle.laws.specs.Run.{for_each};
 ghost use Rattle.steps.specs.State.{Progress};
 ghost use Rattle.steps.specs.Add.{settle as settle_of, take_in as take_in_of};
 ghost use Rattle.numbers.specs.Answers.{Agrees};
 ghost use Rattle.state.specs.Parts.{state_of, sized, size_of};
 ghost use Rattle.grouping.specs.Parts.{take_nodes as take_nodes_of};
+ghost use Rattle.state.specs.Keeps.{Settled, TakenIn};
+ghost use Rattle.numbers.specs.Near.{Near};
 
 use edges::graph::Graph;
 use numbers::faults::{Fault, must};
@@ -18,6 +20,8 @@ use state::pools::Stack;
 pub fn settle(lists: &mut Lists, new: Group, first: Group) -> Result<(), Fault>
     ensures said { (at : Progress) → Agrees (settle_of new first (state_of lists.old at)) result (state_of lists.new at) }
     ensures size { sized lists.new ≡ sized lists.old }
+    ensures others { Settled lists.old lists.new }
+    ensures near { (k : ℕ) → Near k lists.old.pairing.lists.duals → Near k lists.new.pairing.lists.duals }
 {
     let l = lists.label(first.number())?;
     must(l == 1)?;
@@ -33,6 +37,7 @@ pub fn take_in(g: &Graph, lists: &mut Lists, new: Group, v: Node) -> Result<(), 
     requires { sized lists.old ≡ size_of g.now }
     ensures said { (at : Progress) → Agrees (take_in_of g.now new v (state_of lists.old at)) result (state_of lists.new at) }
     ensures size { sized lists.new ≡ sized lists.old }
+    ensures others { TakenIn lists.old lists.new }
 {
     let t = lists.top(v)?;
     let l = lists.label(t.number())?;
@@ -46,6 +51,7 @@ pub fn take_all(g: &Graph, lists: &mut Lists, new: Group, nodes: &[u16]) -> Resu
     requires { sized lists.old ≡ size_of g.now }
     ensures said { (at : Progress) → Agrees (for_each (take_in_of g.now new) nodes.now (state_of lists.old at)) result (state_of lists.new at) }
     ensures size { sized lists.new ≡ sized lists.old }
+    ensures others { TakenIn lists.old lists.new }
 {
     for &v in nodes {
         take_in(g, lists, new, Node::of(v))?;
@@ -60,6 +66,7 @@ pub fn take_nodes(g: &Graph, lists: &mut Lists, new: Group, nodes: &mut Stack) -
     ensures said { (at : Progress) → Agrees (take_nodes_of g.now new (state_of lists.old at)) result (state_of lists.new at) }
     ensures size { sized lists.new ≡ sized lists.old }
     ensures room { nodes.new.room ≡ nodes.old.room }
+    ensures others { TakenIn lists.old lists.new }
 {
     nodes.clear();
     lists.leaves(g, new, nodes)?;

@@ -1,8 +1,8 @@
 -- What a visit leaves: the lists, and the phase closing where the matching was augmented. Definitions only.
-use Rattle.std.specs.Prelude.{if◌then◌else◌, ◌≡◌, Bool, ℕ, eqb, Result, Ok, Err}
+use Rattle.std.specs.Prelude.{if◌then◌else◌, ◌≡◌, Bool, false, ℕ, eqb, Result, Ok, Err}
 use Rattle.laws.specs.Run.{Run, ok, fault, ◌>>=◌, must, at}
 use Rattle.matching.specs.Graph.{Graph, is_group}
-use Rattle.steps.specs.Ends.{far_ends}
+use Rattle.steps.specs.Ends.{endpoint, far_ends}
 use Rattle.steps.specs.Steps.{visit_all}
 use Rattle.steps.specs.State.{State, Progress, closing, ended}
 use Rattle.numbers.specs.declared.faults.Fault.{Fault}
@@ -15,6 +15,17 @@ after t at = record { stage = at.stage; phase = if t then closing else at.phase 
 abbrev pub Visits : Run State → Result Bool Fault → Parts → Progress → Type 0
 Visits x (Ok t) s at = x ≡ ok (state_of s (after t at))
 Visits x (Err e) s at = x ≡ fault
+
+-- an edge to node w joins two label-1 groups, if the outermost group of w has label 1; so does one whose end p is at such a node
+abbrev pub is_one : Run ℕ → Bool
+is_one (ok l) = eqb l 1
+is_one fault = false
+
+abbrev pub joins : Parts → (w : ℕ) → Bool
+joins s w = is_one (at s.forest.lists.tops w >>= λ t. at s.labels.lists.labels t)
+
+abbrev pub joins_at : Graph → Parts → (p : ℕ) → Bool
+joins_at G s p = is_one (endpoint G p >>= λ w. at s.forest.lists.tops w >>= λ t. at s.labels.lists.labels t)
 
 -- node v, which has left the queue, is of a label-1 group, and its neighbours are visited
 unfoldable pub taken : Graph → (v : ℕ) → State → Run State

@@ -8,6 +8,7 @@ ghost use Rattle.numbers.specs.Answers.{Agrees};
 ghost use Rattle.state.specs.Parts.{state_of, sized, size_of};
 ghost use Rattle.stages.specs.Deltas.{amount_of, Small};
 ghost use Rattle.search.specs.Visits.{Follows};
+ghost use Rattle.state.specs.Keeps.{Adjusted, Closed};
 
 use crate::scratch::Scratch;
 use edges::graph::Graph;
@@ -26,6 +27,7 @@ fn follow(g: &Graph, lists: &mut Lists, scratch: &mut Scratch, d: Delta) -> Resu
     ensures said { (at : Progress) → Follows (follow_of g.now (amount_of d) (state_of lists.old at)) result lists.new at }
     ensures size { sized lists.new ≡ sized lists.old }
     ensures room { scratch.new ≡ scratch.old }
+    ensures others { Adjusted lists.old lists.new }
 {
     move_duals(g, lists, d.amount)?;
     match d.by {
@@ -49,6 +51,7 @@ pub fn adjust(
     ensures said { (at : Progress) → Follows (adjust_duals_of g.now flag (state_of lists.old at)) result lists.new at }
     ensures size { sized lists.new ≡ sized lists.old }
     ensures room { scratch.new ≡ scratch.old }
+    ensures others { Adjusted lists.old lists.new }
 {
     let d = choose(g, lists, flag)?;
     follow(g, lists, scratch, d)
@@ -61,6 +64,7 @@ fn close_group(g: &Graph, lists: &mut Lists, scratch: &mut Scratch, b: Group) ->
     ensures said { (at : Progress) → Agrees (close_group_of g.now b (state_of lists.old at)) result (state_of lists.new at) }
     ensures size { sized lists.new ≡ sized lists.old }
     ensures room { scratch.new ≡ scratch.old }
+    ensures others { Closed lists.old lists.new }
 {
     let outermost = lists.is_outermost(b)?;
     let l = lists.label(b.number())?;
@@ -77,6 +81,7 @@ pub fn close_groups(g: &Graph, lists: &mut Lists, scratch: &mut Scratch) -> Resu
     ensures said { (at : Progress) → Agrees (for_range (close_group_of g.now) g.now.nodes g.now.nodes (state_of lists.old at)) result (state_of lists.new at) }
     ensures size { sized lists.new ≡ sized lists.old }
     ensures room { scratch.new ≡ scratch.old }
+    ensures others { Closed lists.old lists.new }
 {
     for b in g.nodes()..g.numbers() {
         close_group(g, lists, scratch, Group::of(b))?;

@@ -7,6 +7,7 @@ ghost use Rattle.steps.specs.State.{Progress};
 ghost use Rattle.numbers.specs.Answers.{Agrees};
 ghost use Rattle.state.specs.Parts.{state_of, sized, size_of};
 ghost use Rattle.state.specs.Walks.{AnswersBase};
+ghost use Rattle.state.specs.Keeps.{Added, Expanded};
 
 use edges::graph::Graph;
 use expand::free::expand;
@@ -83,6 +84,7 @@ impl<'a> Scratch<'a> {
         ensures said { (at : Progress) → Agrees (add_group_of g.now base e (state_of lists.old at)) result (state_of lists.new at) }
         ensures size { sized lists.new ≡ sized lists.old }
         ensures kept { self.new ≡ self.old }
+        ensures others { Added lists.old lists.new }
     {
         add_group(g, lists, &mut self.room, base, e)
     }
@@ -99,6 +101,7 @@ impl<'a> Scratch<'a> {
         ensures said { (at : Progress) → Agrees (expand_top g.now last b (state_of lists.old at)) result (state_of lists.new at) }
         ensures size { sized lists.new ≡ sized lists.old }
         ensures kept { self.new ≡ self.old }
+        ensures others { Expanded last lists.old lists.new }
     {
         expand(g, lists, &mut self.nodes, last, b)
     }

@@ -1,5 +1,5 @@
 // Visiting the neighbours of a taken node. The answers say whether the matching was augmented.
-ghost use Rattle.std.specs.Prelude.{if◌then◌else◌, ◌≡◌, false, pos};
+ghost use Rattle.std.specs.Prelude.{if◌then◌else◌, ◌≡◌, false, pos, eqb};
 ghost use Rattle.laws.specs.Run.{ok};
 ghost use Rattle.matching.specs.Graph.{is_group};
 ghost use Rattle.steps.specs.Ends.{slack_of};
@@ -7,7 +7,8 @@ ghost use Rattle.steps.specs.State.{Progress};
 ghost use Rattle.steps.specs.Steps.{is_closing, join as join_of, use_edge as use_edge_of, pass_edge as pass_edge_of, visit as visit_of, visit_all as visit_all_of};
 ghost use Rattle.numbers.specs.Answers.{Answers};
 ghost use Rattle.state.specs.Parts.{state_of, sized, size_of};
-ghost use Rattle.search.specs.Visits.{Visits};
+ghost use Rattle.search.specs.Visits.{Visits, joins, joins_at};
+ghost use Rattle.state.specs.Keeps.{Relabelled};
 
 use crate::scratch::Scratch;
 use augment::augment_matching;
@@ -32,6 +33,7 @@ fn join(
     ensures said { (at : Progress) → Visits (join_of is_group g.now v w e (state_of lists.old at)) result lists.new at }
     ensures size { sized lists.new ≡ sized lists.old }
     ensures room { scratch.new ≡ scratch.old }
+    ensures free { lists.new.forest.free_places ≡ lists.old.forest.free_places }
 {
     if let Some(base) = scratch.scan(g, lists, v, w)? {
         scratch.add_group(g, lists, base, e)?;
@@ -55,6 +57,8 @@ fn use_edge(
     ensures said { (at : Progress) → Visits (use_edge_of is_group g.now v met.node p met.group_label met.label (state_of lists.old at)) result lists.new at }
     ensures size { sized lists.new ≡ sized lists.old }
     ensures room { scratch.new ≡ scratch.old }
+    ensures free { lists.new.forest.free_places ≡ lists.old.forest.free_places }
+    ensures others { eqb met.group_label 1 ≡ false → Relabelled lists.old lists.new }
 {
     if met.group_label == 0 {
         lists.label_two(g, met.node, p.beside())?;
@@ -90,6 +94,8 @@ fn pass_edge(
     ensures said { (at : Progress) → Visits (pass_edge_of is_group g.now v w p (state_of lists.old at)) result lists.new at }
     ensures size { sized lists.new ≡ sized lists.old }
     ensures room { scratch.new ≡ scratch.old }
+    ensures free { lists.new.forest.free_places ≡ lists.old.forest.free_places }
+    ensures others { joins lists.old w ≡ false → Relabelled lists.old lists.new }
 {
     let e = p.edge();
     let allowed = lists.is_allowed(e)?;
@@ -126,6 +132,8 @@ fn visit(
     ensures said { (at : Progress) → Visits (visit_of is_group g.now v p (state_of lists.old at)) result lists.new at }
     ensures size { sized lists.new ≡ sized lists.old }
     ensures room { scratch.new ≡ scratch.old }
+    ensures free { lists.new.forest.free_places ≡ lists.old.forest.free_places }
+    ensures others { joins_at g.now lists.old p ≡ false → Relabelled lists.old lists.new }
 {
     let w = g.endpoint(p)?;
     let from = lists.top(v)?;
@@ -149,6 +157,7 @@ pub(crate) fn visit_all(
     ensures said { (at : Progress) → is_closing at.phase ≡ false → Visits (visit_all_of is_group g.now v row.now (state_of lists.old at)) result lists.new at }
     ensures size { sized lists.new ≡ sized lists.old }
     ensures room { scratch.new ≡ scratch.old }
+    ensures free { lists.new.forest.free_places ≡ lists.old.forest.free_places }
 {
     let mut left = row;
     while let Some((&p, rest)) = look_on(g, lists, v, left).split_first() {

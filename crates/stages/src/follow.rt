@@ -5,6 +5,7 @@ ghost use Rattle.steps.specs.State.{Progress};
 ghost use Rattle.steps.specs.Adjust.{resume as resume_of, labelled_end as labelled_end_of, follow2, follow3};
 ghost use Rattle.numbers.specs.Answers.{Answers, Agrees};
 ghost use Rattle.state.specs.Parts.{state_of, sized, size_of};
+ghost use Rattle.state.specs.Keeps.{ButFollowed, ButQueue, InLabels};
 
 use edges::graph::{EdgeAt, Graph};
 use numbers::faults::{Fault, must};
@@ -18,6 +19,7 @@ fn resume(g: &Graph, lists: &mut Lists, v: Node) -> Result<(), Fault>
     ensures said { (at : Progress) → Agrees (resume_of g.now v (state_of lists.old at)) result (state_of lists.new at) }
     ensures size { sized lists.new ≡ sized lists.old }
     ensures kids { lists.new.forest.kids ≡ lists.old.forest.kids }
+    ensures others { InLabels lists.old lists.new × ButQueue lists.old.labels lists.new.labels }
 {
     let t = lists.top(v)?;
     let l = lists.label(t.number())?;
@@ -45,6 +47,7 @@ pub fn follow_two(g: &Graph, lists: &mut Lists, e: Edge) -> Result<(), Fault>
     ensures said { (at : Progress) → Agrees (follow2 g.now e (state_of lists.old at)) result (state_of lists.new at) }
     ensures size { sized lists.new ≡ sized lists.old }
     ensures kids { lists.new.forest.kids ≡ lists.old.forest.kids }
+    ensures others { InLabels lists.old lists.new × ButFollowed lists.old.labels lists.new.labels }
 {
     lists.put_allowed(e, true)?;
     let x = g.edge(e)?;
@@ -59,6 +62,7 @@ pub fn follow_three(g: &Graph, lists: &mut Lists, e: Edge) -> Result<(), Fault>
     ensures said { (at : Progress) → Agrees (follow3 g.now e (state_of lists.old at)) result (state_of lists.new at) }
     ensures size { sized lists.new ≡ sized lists.old }
     ensures kids { lists.new.forest.kids ≡ lists.old.forest.kids }
+    ensures others { InLabels lists.old lists.new × ButFollowed lists.old.labels lists.new.labels }
 {
     lists.put_allowed(e, true)?;
     let x = g.edge(e)?;

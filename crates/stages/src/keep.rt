@@ -4,6 +4,7 @@ ghost use Rattle.steps.specs.State.{Progress};
 ghost use Rattle.steps.specs.Steps.{reach as reach_of, keep_best as keep_best_of, keep_edge as keep_edge_of};
 ghost use Rattle.numbers.specs.Answers.{Agrees};
 ghost use Rattle.state.specs.Parts.{state_of, sized};
+ghost use Rattle.state.specs.Keeps.{ButBest, ButReached, InLabels};
 
 use edges::graph::Graph;
 use numbers::faults::{Fault, must};
@@ -24,6 +25,7 @@ pub fn reach(lists: &mut Lists, w: Node, p: End) -> Result<(), Fault>
     ensures said { (at : Progress) → Agrees (reach_of w p (state_of lists.old at)) result (state_of lists.new at) }
     ensures size { sized lists.new ≡ sized lists.old }
     ensures kids { lists.new.forest.kids ≡ lists.old.forest.kids }
+    ensures others { InLabels lists.old lists.new × ButReached lists.old.labels lists.new.labels }
 {
     let t = lists.top(w)?;
     let l = lists.label(t.number())?;
@@ -38,6 +40,7 @@ fn keep_best(g: &Graph, lists: &mut Lists, i: u16, e: Edge, k: i64) -> Result<()
     ensures said { (at : Progress) → Agrees (keep_best_of g.now i e k (state_of lists.old at)) result (state_of lists.new at) }
     ensures size { sized lists.new ≡ sized lists.old }
     ensures kids { lists.new.forest.kids ≡ lists.old.forest.kids }
+    ensures others { InLabels lists.old lists.new × ButBest lists.old.labels lists.new.labels }
 {
     let b = lists.best(i)?;
     if b.is_missing() {
@@ -63,6 +66,7 @@ pub fn keep_edge(
     ensures said { (at : Progress) → Agrees (keep_edge_of g.now v met.node e met.group_label met.label k (state_of lists.old at)) result (state_of lists.new at) }
     ensures size { sized lists.new ≡ sized lists.old }
     ensures kids { lists.new.forest.kids ≡ lists.old.forest.kids }
+    ensures others { InLabels lists.old lists.new × ButBest lists.old.labels lists.new.labels }
 {
     if met.group_label == 1 {
         let b = lists.top(v)?;

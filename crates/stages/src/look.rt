@@ -10,6 +10,7 @@ ghost use Rattle.steps.specs.Steps.{is_closing, keep_best, keep_edge, pass_edge,
 ghost use Rattle.steps.specs.Stores.{with_best};
 ghost use Rattle.state.specs.Parts.{state_of, sized};
 ghost use Rattle.stages.specs.Look.{Turns, Sees, Of, Keen};
+ghost use Rattle.state.specs.Keeps.{ButBest, InLabels};
 
 use crate::keep::Met;
 use edges::graph::Graph;
@@ -126,6 +127,7 @@ pub fn look_on<'r>(g: &Graph, lists: &mut Lists, v: Node, row: &'r [u16]) -> &'r
     ensures best { (at : Progress) → state_of lists.new at ≡ with_best lists.new.labels.lists.best (state_of lists.old at) }
     ensures size { sized lists.new ≡ sized lists.old }
     ensures kids { lists.new.forest.kids ≡ lists.old.forest.kids }
+    ensures others { InLabels lists.old lists.new × ButBest lists.old.labels lists.new.labels }
 {
     let Ok(group) = lists.top(v) else {
         return row;

@@ -6,6 +6,7 @@ ghost use Rattle.steps.specs.State.{Progress};
 ghost use Rattle.steps.specs.Adjust.{put_fit_dual as put_fit_dual_of, move_node as move_node_of, move_group as move_group_of, move_duals as move_duals_of};
 ghost use Rattle.numbers.specs.Answers.{Agrees};
 ghost use Rattle.state.specs.Parts.{state_of, sized, size_of};
+ghost use Rattle.state.specs.Keeps.{ButDuals, InPairing};
 
 use edges::graph::Graph;
 use numbers::faults::{Fault, must};
@@ -28,6 +29,7 @@ fn put_fit_dual(lists: &mut Lists, i: u16, d: i64) -> Result<(), Fault>
     ensures said { (at : Progress) → Agrees (put_fit_dual_of i d (state_of lists.old at)) result (state_of lists.new at) }
     ensures size { sized lists.new ≡ sized lists.old }
     ensures kids { lists.new.forest.kids ≡ lists.old.forest.kids }
+    ensures others { InPairing lists.old lists.new × ButDuals lists.old.pairing lists.new.pairing }
 {
     must(fits_dual(d))?;
     lists.put_dual(i, d)
@@ -40,6 +42,7 @@ fn move_node(lists: &mut Lists, delta: i64, v: Node) -> Result<(), Fault>
     ensures said { (at : Progress) → Agrees (move_node_of delta v (state_of lists.old at)) result (state_of lists.new at) }
     ensures size { sized lists.new ≡ sized lists.old }
     ensures kids { lists.new.forest.kids ≡ lists.old.forest.kids }
+    ensures others { InPairing lists.old lists.new × ButDuals lists.old.pairing lists.new.pairing }
 {
     let t = lists.top(v)?;
     let l = lists.label(t.number())?;
@@ -59,6 +62,7 @@ fn move_group(lists: &mut Lists, delta: i64, b: Group) -> Result<(), Fault>
     ensures said { (at : Progress) → Agrees (move_group_of delta b (state_of lists.old at)) result (state_of lists.new at) }
     ensures size { sized lists.new ≡ sized lists.old }
     ensures kids { lists.new.forest.kids ≡ lists.old.forest.kids }
+    ensures others { InPairing lists.old lists.new × ButDuals lists.old.pairing lists.new.pairing }
 {
     if !lists.is_outermost(b)? {
         return Ok(());
@@ -79,6 +83,7 @@ fn move_nodes(g: &Graph, lists: &mut Lists, delta: i64) -> Result<(), Fault>
     ensures said { (at : Progress) → Agrees (for_range (move_node_of delta) 0 g.now.nodes (state_of lists.old at)) result (state_of lists.new at) }
     ensures size { sized lists.new ≡ sized lists.old }
     ensures kids { lists.new.forest.kids ≡ lists.old.forest.kids }
+    ensures others { InPairing lists.old lists.new × ButDuals lists.old.pairing lists.new.pairing }
 {
     for v in 0..g.nodes() {
         move_node(lists, delta, Node::of(v))?;
@@ -92,6 +97,7 @@ fn move_groups(g: &Graph, lists: &mut Lists, delta: i64) -> Result<(), Fault>
     ensures said { (at : Progress) → Agrees (for_range (move_group_of delta) g.now.nodes g.now.nodes (state_of lists.old at)) result (state_of lists.new at) }
     ensures size { sized lists.new ≡ sized lists.old }
     ensures kids { lists.new.forest.kids ≡ lists.old.forest.kids }
+    ensures others { InPairing lists.old lists.new × ButDuals lists.old.pairing lists.new.pairing }
 {
     for b in g.nodes()..g.numbers() {
         move_group(lists, delta, Group::of(b))?;
@@ -106,6 +112,7 @@ pub fn move_duals(g: &Graph, lists: &mut Lists, delta: i64) -> Result<(), Fault>
     ensures said { (at : Progress) → Agrees (move_duals_of g.now delta (state_of lists.old at)) result (state_of lists.new at) }
     ensures size { sized lists.new ≡ sized lists.old }
     ensures kids { lists.new.forest.kids ≡ lists.old.forest.kids }
+    ensures others { InPairing lists.old lists.new × ButDuals lists.old.pairing lists.new.pairing }
 {
     move_nodes(g, lists, delta)?;
     move_groups(g, lists, delta)

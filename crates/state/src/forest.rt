@@ -7,6 +7,7 @@ ghost use Rattle.steps.specs.Stores.{put_top, put_parent, put_base, put_children
 ghost use Rattle.steps.specs.Leaves.{leaves as leaves_of};
 ghost use Rattle.numbers.specs.Answers.{Answers, AnswersRow, RowFits, Agrees};
 ghost use Rattle.state.specs.Parts.{whole};
+ghost use Rattle.state.specs.Keeps.{ButBases, ButChildren, ButParents, ButRingEnds, ButTops};
 
 use crate::pools::{Pool, Stack, leaves};
 use numbers::faults::{Fault, read, store};
@@ -30,7 +31,7 @@ impl<'a> Model for Forest<'a> {
 
     ghost Value = { Trees };
 
-    ghost view = { λ s. record { lists = forest_of s.tops.now s.parents.now s.bases.now s.children.rows s.ring_ends.rows s.free.entries; nodes = s.n; kids = s.children.places } };
+    ghost view = { λ s. record { lists = forest_of s.tops.now s.parents.now s.bases.now s.children.rows s.ring_ends.rows s.free.entries; nodes = s.n; kids = s.children.places; counts = s.children.counts; links = s.ring_ends.places; link_counts = s.ring_ends.counts; free_places = s.free.places } };
 
     ghost invariant = { λ s. TreesFit s.n s.tops.now s.parents.now s.bases.now s.children.rows s.ring_ends.rows s.free.room };
 }
@@ -66,6 +67,7 @@ impl<'a> Forest<'a> {
         ensures said { (l : LabellingOf) (q : PairingOf) (at : Progress) → Agrees (put_top v b (whole self.old.lists l q at)) result (whole self.new.lists l q at) }
         ensures size { self.new.nodes ≡ self.old.nodes }
         ensures kids { self.new.kids ≡ self.old.kids }
+        ensures others { ButTops self.old self.new }
     {
         store(self.tops, v.number(), b.number())
     }
@@ -74,6 +76,7 @@ impl<'a> Forest<'a> {
         ensures said { (l : LabellingOf) (q : PairingOf) (at : Progress) → Agrees (put_parent b to (whole self.old.lists l q at)) result (whole self.new.lists l q at) }
         ensures size { self.new.nodes ≡ self.old.nodes }
         ensures kids { self.new.kids ≡ self.old.kids }
+        ensures others { ButParents self.old self.new }
     {
         store(self.parents, b.number(), to.number())
     }
@@ -82,6 +85,7 @@ impl<'a> Forest<'a> {
         ensures said { (l : LabellingOf) (q : PairingOf) (at : Progress) → Agrees (put_base b v (whole self.old.lists l q at)) result (whole self.new.lists l q at) }
         ensures size { self.new.nodes ≡ self.old.nodes }
         ensures kids { self.new.kids ≡ self.old.kids }
+        ensures others { ButBases self.old self.new }
     {
         store(self.bases, b.number(), v.number())
     }
@@ -115,6 +119,7 @@ impl<'a> Forest<'a> {
         requires fits { (self.old.nodes ≤ b) × (length items.now ≤ self.old.nodes) }
         ensures said { (l : LabellingOf) (q : PairingOf) (at : Progress) → Agrees (put_children b items.now (whole self.old.lists l q at)) result (whole self.new.lists l q at) }
         ensures size { self.new.nodes ≡ self.old.nodes }
+        ensures others { ButChildren self.old self.new }
     {
         self.children.set_row(b.number(), items)
     }
@@ -125,6 +130,7 @@ impl<'a> Forest<'a> {
         ensures said { (l : LabellingOf) (q : PairingOf) (at : Progress) → Agrees (put_ring_ends b items.now (whole self.old.lists l q at)) result (whole self.new.lists l q at) }
         ensures size { self.new.nodes ≡ self.old.nodes }
         ensures kids { self.new.kids ≡ self.old.kids }
+        ensures others { ButRingEnds self.old self.new }
     {
         self.ring_ends.set_row(b.number(), items)
     }
@@ -134,6 +140,7 @@ impl<'a> Forest<'a> {
         ensures said { (l : LabellingOf) (q : PairingOf) (at : Progress) → Agrees (put_children b [] (whole self.old.lists l q at)) result (whole self.new.lists l q at) }
         ensures size { self.new.nodes ≡ self.old.nodes }
         ensures kids { self.new.kids ≡ self.old.kids }
+        ensures others { ButChildren self.old self.new }
     {
         self.children.clear_row(b.number())
     }
@@ -142,6 +149,8 @@ impl<'a> Forest<'a> {
         ensures said { (l : LabellingOf) (q : PairingOf) (at : Progress) → Agrees (put_ring_ends b [] (whole self.old.lists l q at)) result (whole self.new.lists l q at) }
         ensures size { self.new.nodes ≡ self.old.nodes }
         ensures kids { self.new.kids ≡ self.old.kids }
+        ensures others { ButRingEnds self.old self.new }
+        ensures links { self.new.links ≡ self.old.links }
     {
         self.ring_ends.clear_row(b.number())
     }

@@ -6,6 +6,7 @@ ghost use Rattle.steps.specs.State.{Labelling as LabellingOf, Pairing as Pairing
 ghost use Rattle.numbers.specs.Answers.{Agrees};
 ghost use Rattle.state.specs.Parts.{state_of, sized, size_of, whole};
 ghost use Rattle.state.specs.Kids.{Counts, freed};
+ghost use Rattle.state.specs.Keeps.{ButFree, InForest};
 
 use crate::forest::Forest;
 use crate::lists::Lists;
@@ -59,6 +60,7 @@ impl<'a> Forest<'a> {
         ensures said { (l : LabellingOf) (q : PairingOf) (at : Progress) → Agrees (freed self.old.nodes b (whole self.old.lists l q at)) result (whole self.new.lists l q at) }
         ensures size { self.new.nodes ≡ self.old.nodes }
         ensures kids { self.new.kids ≡ self.old.kids }
+        ensures others { ButFree self.old self.new }
     {
         self.free.push(b.number())
     }
@@ -87,6 +89,7 @@ impl<'a> Lists<'a> {
         ensures said { (at : Progress) → Agrees (freed g.now.nodes b (state_of self.old at)) result (state_of self.new at) }
         ensures size { sized self.new ≡ sized self.old }
         ensures kids { self.new.forest.kids ≡ self.old.forest.kids }
+        ensures others { InForest self.old self.new × ButFree self.old.forest self.new.forest }
     {
         self.forest.free_number(b)
     }

@@ -4,6 +4,7 @@ ghost use Rattle.steps.specs.State.{Progress};
 ghost use Rattle.steps.specs.Label.{label1, label2};
 ghost use Rattle.numbers.specs.Answers.{Agrees};
 ghost use Rattle.state.specs.Parts.{state_of, sized, size_of};
+ghost use Rattle.state.specs.Keeps.{ButLabelled, InLabels};
 
 use crate::lists::Lists;
 use edges::graph::Graph;
@@ -18,6 +19,7 @@ impl<'a> Lists<'a> {
         ensures said { (at : Progress) → Agrees (label1 g.now w p (state_of self.old at)) result (state_of self.new at) }
         ensures size { sized self.new ≡ sized self.old }
         ensures kids { self.new.forest.kids ≡ self.old.forest.kids }
+        ensures others { InLabels self.old self.new × ButLabelled self.old.labels self.new.labels }
     {
         let b = self.forest.top(w)?;
         self.labelling.mark(w, b, 1, p)?;
@@ -31,6 +33,7 @@ impl<'a> Lists<'a> {
         ensures said { (at : Progress) → Agrees (label2 g.now w p (state_of self.old at)) result (state_of self.new at) }
         ensures size { sized self.new ≡ sized self.old }
         ensures kids { self.new.forest.kids ≡ self.old.forest.kids }
+        ensures others { InLabels self.old self.new × ButLabelled self.old.labels self.new.labels }
     {
         let b = self.forest.top(w)?;
         self.labelling.mark(w, b, 2, p)?;

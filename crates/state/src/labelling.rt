@@ -8,6 +8,7 @@ ghost use Rattle.steps.specs.Label.{mark as mark_of, enqueue as enqueue_of};
 ghost use Rattle.numbers.specs.Answers.{Answers, AnswersRow, RowFits, Agrees, Kept};
 ghost use Rattle.state.specs.Parts.{whole, queued, with_queue_list};
 ghost use Rattle.state.specs.Pops.{Pops, is_nil};
+ghost use Rattle.state.specs.Keeps.{ButAllowed, ButBest, ButBestLists, ButLabelEnds, ButLabels, ButMarked, ButQueue};
 
 use crate::forest::Forest;
 use crate::pools::{Pool, Stack, copy};
@@ -34,7 +35,7 @@ impl<'a> Model for Labelling<'a> {
 
     ghost Value = { Labels };
 
-    ghost view = { λ s. record { lists = labelling_of s.labels.now s.label_ends.now s.best.now s.best_lists.rows s.allowed.now s.queue.entries; size = record { nodes = s.n; edges = s.m } } };
+    ghost view = { λ s. record { lists = labelling_of s.labels.now s.label_ends.now s.best.now s.best_lists.rows s.allowed.now s.queue.entries; size = record { nodes = s.n; edges = s.m }; candidates = s.best_lists.places } };
 
     ghost invariant = { λ s. LabelsFit s.n s.m s.labels.now s.label_ends.now s.best.now s.best_lists.rows s.allowed.now s.queue.room };
 }
@@ -80,6 +81,7 @@ impl<'a> Labelling<'a> {
     pub fn set_label(&mut self, i: u16, t: u16) -> Result<(), Fault>
         ensures said { (f : ForestOf) (q : PairingOf) (at : Progress) → Agrees (put_label i t (whole f self.old.lists q at)) result (whole f self.new.lists q at) }
         ensures size { self.new.size ≡ self.old.size }
+        ensures others { ButLabels self.old self.new }
     {
         store(self.labels, i, t)
     }
@@ -87,6 +89,7 @@ impl<'a> Labelling<'a> {
     pub fn set_label_end(&mut self, i: u16, p: End) -> Result<(), Fault>
         ensures said { (f : ForestOf) (q : PairingOf) (at : Progress) → Agrees (put_label_end i p (whole f self.old.lists q at)) result (whole f self.new.lists q at) }
         ensures size { self.new.size ≡ self.old.size }
+        ensures others { ButLabelEnds self.old self.new }
     {
         store(self.label_ends, i, p.number())
     }
@@ -96,6 +99,7 @@ impl<'a> Labelling<'a> {
         ensures said { (f : ForestOf) (q : PairingOf) (at : Progress) → Agrees (put_best i e (whole f self.old.lists q at)) result (whole f self.new.lists q at) }
         ensures size { self.new.size ≡ self.old.size }
         ensures kept { Kept result self.old self.new }
+        ensures others { ButBest self.old self.new }
     {
         store(self.best, i, e.number())
     }
@@ -105,6 +109,7 @@ impl<'a> Labelling<'a> {
         requires fits { (self.old.size.nodes ≤ b) × (length items.now ≤ self.old.size.nodes) }
         ensures said { (f : ForestOf) (q : PairingOf) (at : Progress) → Agrees (put_best_list b items.now (whole f self.old.lists q at)) result (whole f self.new.lists q at) }
         ensures size { self.new.size ≡ self.old.size }
+        ensures others { ButBestLists self.old self.new }
     {
         self.best_lists.set_row(b.number(), items)
     }
@@ -113,6 +118,8 @@ impl<'a> Labelling<'a> {
     pub fn clear_best_list(&mut self, b: Group) -> Result<(), Fault>
         ensures said { (f : ForestOf) (q : PairingOf) (at : Progress) → Agrees (put_best_list b [] (whole f self.old.lists q at)) result (whole f self.new.lists q at) }
         ensures size { self.new.size ≡ self.old.size }
+        ensures others { ButBestLists self.old self.new }
+        ensures places { self.new.candidates ≡ self.old.candidates }
     {
         self.best_lists.clear_row(b.number())
     }
@@ -120,6 +127,7 @@ impl<'a> Labelling<'a> {
     pub fn set_allowed(&mut self, e: Edge, allowed: bool) -> Result<(), Fault>
         ensures said { (f : ForestOf) (q : PairingOf) (at : Progress) → Agrees (put_allowed e allowed (whole f self.old.lists q at)) result (whole f self.new.lists q at) }
         ensures size { self.new.size ≡ self.old.size }
+        ensures others { ButAllowed self.old self.new }
     {
         store(self.allowed, e.number(), allowed)
     }
@@ -138,6 +146,7 @@ impl<'a> Labelling<'a> {
         requires { self.old.size.nodes ≡ g.now.nodes }
         ensures said { (f : ForestOf) (q : PairingOf) (at : Progress) → Agrees (enqueue_of g.now v (whole f self.old.lists q at)) result (whole f self.new.lists q at) }
         ensures size { self.new.size ≡ self.old.size }
+        ensures others { ButQueue self.old self.new }
     {
         self.queue.push(v.number())
     }
@@ -146,6 +155,7 @@ impl<'a> Labelling<'a> {
     pub fn queue_leaves(&mut self, forest: &Forest, n: u16, b: Group) -> Result<(), Fault>
         ensures said { Agrees (queued n (2 * self.old.size.nodes) forest.now.lists b self.old.lists) result self.new.lists }
         ensures size { self.new.size ≡ self.old.size }
+        ensures others { ButQueue self.old self.new }
     {
         forest.leaves(n, b, &mut self.queue)?;
         Ok(())
@@ -156,6 +166,7 @@ impl<'a> Labelling<'a> {
     pub fn mark(&mut self, w: Node, b: Group, t: u16, p: End) -> Result<(), Fault>
         ensures said { (f : ForestOf) (q : PairingOf) (at : Progress) → Agrees (mark_of w b t p (whole f self.old.lists q at)) result (whole f self.new.lists q at) }
         ensures size { self.new.size ≡ self.old.size }
+        ensures others { ButMarked self.old self.new }
     {
         let at_node = self.label(w.number())?;
         let at_group = self.label(b.number())?;
@@ -179,6 +190,7 @@ impl<'a> Labelling<'a> {
         ensures said { Pops (pop_of self.old.lists.queue) result self.new.lists.queue }
         ensures rest { self.new.lists ≡ with_queue_list self.new.lists.queue self.old.lists }
         ensures size { self.new.size ≡ self.old.size }
+        ensures others { ButQueue self.old self.new }
     {
         let v = self.queue.pop()?;
         Ok(Node::of(v))

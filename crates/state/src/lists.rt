@@ -1,5 +1,5 @@
 // The lists of the search in the definition's three parts. A routine above takes them by one reference.
-ghost use Rattle.std.specs.Prelude.{◌≡◌, ◌*◌, ◌≤◌, ◌<◌, [], nat_abs, length};
+ghost use Rattle.std.specs.Prelude.{ℕ, ◌≡◌, ◌*◌, ◌≤◌, ◌<◌, [], nat_abs, length};
 ghost use Rattle.std.specs.Result.{IfOk};
 ghost use Rattle.laws.specs.Run.{at};
 ghost use Rattle.steps.specs.State.{Progress};
@@ -9,6 +9,8 @@ ghost use Rattle.steps.specs.Leaves.{leaves as leaves_of};
 ghost use Rattle.steps.specs.Ends.{slack_of, tighter as tighter_of};
 ghost use Rattle.numbers.specs.Answers.{Answers, AnswersRow, RowFits, Agrees, Kept};
 ghost use Rattle.state.specs.Parts.{state_of, sized, size_of};
+ghost use Rattle.state.specs.Keeps.{ButAllowed, ButBases, ButBest, ButBestLists, ButChildren, ButDuals, ButLabelEnds, ButLabels, ButMates, ButParents, ButQueue, ButRingEnds, ButTops, InForest, InLabels, InPairing};
+ghost use Rattle.numbers.specs.Near.{Near};
 
 use crate::forest::Forest;
 use crate::labelling::Labelling;
@@ -173,6 +175,7 @@ impl<'a> Lists<'a> {
         ensures said { (at : Progress) → Agrees (put_top v b (state_of self.old at)) result (state_of self.new at) }
         ensures size { sized self.new ≡ sized self.old }
         ensures kids { self.new.forest.kids ≡ self.old.forest.kids }
+        ensures others { InForest self.old self.new × ButTops self.old.forest self.new.forest }
     {
         self.forest.set_top(v, b)
     }
@@ -181,6 +184,7 @@ impl<'a> Lists<'a> {
         ensures said { (at : Progress) → Agrees (put_parent b to (state_of self.old at)) result (state_of self.new at) }
         ensures size { sized self.new ≡ sized self.old }
         ensures kids { self.new.forest.kids ≡ self.old.forest.kids }
+        ensures others { InForest self.old self.new × ButParents self.old.forest self.new.forest }
     {
         self.forest.set_parent(b, to)
     }
@@ -189,6 +193,7 @@ impl<'a> Lists<'a> {
         ensures said { (at : Progress) → Agrees (put_base b v (state_of self.old at)) result (state_of self.new at) }
         ensures size { sized self.new ≡ sized self.old }
         ensures kids { self.new.forest.kids ≡ self.old.forest.kids }
+        ensures others { InForest self.old self.new × ButBases self.old.forest self.new.forest }
     {
         self.forest.set_base(b, v)
     }
@@ -198,6 +203,7 @@ impl<'a> Lists<'a> {
         requires { (self.old.labels.size.nodes ≤ b) × (length items.now ≤ self.old.labels.size.nodes) }
         ensures said { (at : Progress) → Agrees (put_children b items.now (state_of self.old at)) result (state_of self.new at) }
         ensures size { sized self.new ≡ sized self.old }
+        ensures others { InForest self.old self.new × ButChildren self.old.forest self.new.forest }
     {
         self.forest.set_children(b, items)
     }
@@ -208,6 +214,7 @@ impl<'a> Lists<'a> {
         ensures said { (at : Progress) → Agrees (put_ring_ends b items.now (state_of self.old at)) result (state_of self.new at) }
         ensures size { sized self.new ≡ sized self.old }
         ensures kids { self.new.forest.kids ≡ self.old.forest.kids }
+        ensures others { InForest self.old self.new × ButRingEnds self.old.forest self.new.forest }
     {
         self.forest.set_ring_ends(b, items)
     }
@@ -217,6 +224,7 @@ impl<'a> Lists<'a> {
         ensures said { (at : Progress) → Agrees (put_children b [] (state_of self.old at)) result (state_of self.new at) }
         ensures size { sized self.new ≡ sized self.old }
         ensures kids { self.new.forest.kids ≡ self.old.forest.kids }
+        ensures others { InForest self.old self.new × ButChildren self.old.forest self.new.forest }
     {
         self.forest.clear_children(b)
     }
@@ -225,6 +233,8 @@ impl<'a> Lists<'a> {
         ensures said { (at : Progress) → Agrees (put_ring_ends b [] (state_of self.old at)) result (state_of self.new at) }
         ensures size { sized self.new ≡ sized self.old }
         ensures kids { self.new.forest.kids ≡ self.old.forest.kids }
+        ensures others { InForest self.old self.new × ButRingEnds self.old.forest self.new.forest }
+        ensures links { self.new.forest.links ≡ self.old.forest.links }
     {
         self.forest.clear_ring_ends(b)
     }
@@ -233,6 +243,7 @@ impl<'a> Lists<'a> {
         ensures said { (at : Progress) → Agrees (put_label i t (state_of self.old at)) result (state_of self.new at) }
         ensures size { sized self.new ≡ sized self.old }
         ensures kids { self.new.forest.kids ≡ self.old.forest.kids }
+        ensures others { InLabels self.old self.new × ButLabels self.old.labels self.new.labels }
     {
         self.labelling.set_label(i, t)
     }
@@ -241,6 +252,7 @@ impl<'a> Lists<'a> {
         ensures said { (at : Progress) → Agrees (put_label_end i p (state_of self.old at)) result (state_of self.new at) }
         ensures size { sized self.new ≡ sized self.old }
         ensures kids { self.new.forest.kids ≡ self.old.forest.kids }
+        ensures others { InLabels self.old self.new × ButLabelEnds self.old.labels self.new.labels }
     {
         self.labelling.set_label_end(i, p)
     }
@@ -250,6 +262,7 @@ impl<'a> Lists<'a> {
         ensures size { sized self.new ≡ sized self.old }
         ensures kept { Kept result self.old self.new }
         ensures kids { self.new.forest.kids ≡ self.old.forest.kids }
+        ensures others { InLabels self.old self.new × ButBest self.old.labels self.new.labels }
     {
         self.labelling.set_best(i, e)
     }
@@ -260,6 +273,7 @@ impl<'a> Lists<'a> {
         ensures said { (at : Progress) → Agrees (put_best_list b items.now (state_of self.old at)) result (state_of self.new at) }
         ensures size { sized self.new ≡ sized self.old }
         ensures kids { self.new.forest.kids ≡ self.old.forest.kids }
+        ensures others { InLabels self.old self.new × ButBestLists self.old.labels self.new.labels }
     {
         self.labelling.set_best_list(b, items)
     }
@@ -269,6 +283,8 @@ impl<'a> Lists<'a> {
         ensures said { (at : Progress) → Agrees (put_best_list b [] (state_of self.old at)) result (state_of self.new at) }
         ensures size { sized self.new ≡ sized self.old }
         ensures kids { self.new.forest.kids ≡ self.old.forest.kids }
+        ensures others { InLabels self.old self.new × ButBestLists self.old.labels self.new.labels }
+        ensures places { self.new.labels.candidates ≡ self.old.labels.candidates }
     {
         self.labelling.clear_best_list(b)
     }
@@ -277,6 +293,7 @@ impl<'a> Lists<'a> {
         ensures said { (at : Progress) → Agrees (put_allowed e allowed (state_of self.old at)) result (state_of self.new at) }
         ensures size { sized self.new ≡ sized self.old }
         ensures kids { self.new.forest.kids ≡ self.old.forest.kids }
+        ensures others { InLabels self.old self.new × ButAllowed self.old.labels self.new.labels }
     {
         self.labelling.set_allowed(e, allowed)
     }
@@ -285,6 +302,7 @@ impl<'a> Lists<'a> {
         ensures said { (at : Progress) → Agrees (put_mate v p (state_of self.old at)) result (state_of self.new at) }
         ensures size { sized self.new ≡ sized self.old }
         ensures kids { self.new.forest.kids ≡ self.old.forest.kids }
+        ensures others { InPairing self.old self.new × ButMates self.old.pairing self.new.pairing }
     {
         self.pairing.set_mate(v, p)
     }
@@ -295,6 +313,8 @@ impl<'a> Lists<'a> {
         ensures said { (at : Progress) → Agrees (put_dual i d (state_of self.old at)) result (state_of self.new at) }
         ensures size { sized self.new ≡ sized self.old }
         ensures kids { self.new.forest.kids ≡ self.old.forest.kids }
+        ensures others { InPairing self.old self.new × ButDuals self.old.pairing self.new.pairing }
+        ensures stays { (k : ℕ) → nat_abs d ≤ k → Near k self.old.pairing.lists.duals → Near k self.new.pairing.lists.duals }
     {
         self.pairing.set_dual(i, d)
     }
@@ -305,6 +325,7 @@ impl<'a> Lists<'a> {
         ensures said { (at : Progress) → Agrees (enqueue_of g.now v (state_of self.old at)) result (state_of self.new at) }
         ensures size { sized self.new ≡ sized self.old }
         ensures kids { self.new.forest.kids ≡ self.old.forest.kids }
+        ensures others { InLabels self.old self.new × ButQueue self.old.labels self.new.labels }
     {
         self.labelling.enqueue(g, v)
     }

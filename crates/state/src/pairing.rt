@@ -1,5 +1,5 @@
 // The pairing: mates and duals.
-ghost use Rattle.std.specs.Prelude.{◌≡◌, ◌*◌, ◌≤◌, ◌<◌, nat_abs, length};
+ghost use Rattle.std.specs.Prelude.{ℕ, ◌≡◌, ◌*◌, ◌≤◌, ◌<◌, nat_abs, length};
 ghost use Rattle.std.specs.Result.{IfOk};
 ghost use Rattle.laws.specs.Run.{at};
 ghost use Rattle.steps.specs.State.{Forest as ForestOf, Labelling as LabellingOf, Progress};
@@ -7,6 +7,8 @@ ghost use Rattle.steps.specs.Stores.{put_mate, put_dual};
 ghost use Rattle.steps.specs.Ends.{slack_of, tighter as tighter_of};
 ghost use Rattle.numbers.specs.Answers.{Answers, Agrees};
 ghost use Rattle.state.specs.Parts.{whole};
+ghost use Rattle.state.specs.Keeps.{ButDuals, ButMates};
+ghost use Rattle.numbers.specs.Near.{Near};
 
 use edges::graph::Graph;
 use numbers::faults::{Fault, read, store};
@@ -51,6 +53,7 @@ impl<'a> Pairing<'a> {
     pub fn set_mate(&mut self, v: Node, p: End) -> Result<(), Fault>
         ensures said { (f : ForestOf) (l : LabellingOf) (at : Progress) → Agrees (put_mate v p (whole f l self.old.lists at)) result (whole f l self.new.lists at) }
         ensures size { self.new.nodes ≡ self.old.nodes }
+        ensures others { ButMates self.old self.new }
     {
         store(self.mates, v.number(), p.number())
     }
@@ -59,6 +62,8 @@ impl<'a> Pairing<'a> {
         requires { nat_abs d ≤ 4503599627370496 }
         ensures said { (f : ForestOf) (l : LabellingOf) (at : Progress) → Agrees (put_dual i d (whole f l self.old.lists at)) result (whole f l self.new.lists at) }
         ensures size { self.new.nodes ≡ self.old.nodes }
+        ensures others { ButDuals self.old self.new }
+        ensures stays { (k : ℕ) → nat_abs d ≤ k → Near k self.old.lists.duals → Near k self.new.lists.duals }
     {
         store(self.duals, i, d)
     }

@@ -4,7 +4,7 @@ ghost use Rattle.laws.specs.Run.{ok, at, put, push as push_of, pop as pop_of};
 ghost use Rattle.numbers.specs.Pools.{pooled, PoolFits};
 ghost use Rattle.steps.specs.Ring.{rotate};
 ghost use Rattle.steps.specs.Leaves.{leaves as leaves_of};
-ghost use Rattle.numbers.specs.Answers.{AnswersRow, RowFits, Agrees};
+ghost use Rattle.numbers.specs.Answers.{AnswersRow, RowFits, Agrees, Kept};
 ghost use Rattle.state.specs.Pops.{Pops, is_nil};
 
 use numbers::faults::Fault;
@@ -22,7 +22,7 @@ impl<'a> Model for Stack<'a> {
 
     ghost Value = { Stacked };
 
-    ghost view = { λ s. record { entries = take s.len s.items.now; room = length s.items.now } };
+    ghost view = { λ s. record { entries = take s.len s.items.now; room = length s.items.now; places = s.items.now } };
 
     ghost invariant = { λ s. (s.len ≤ length s.items.now) × (length s.items.now < 2 ^ 16) };
 }
@@ -50,6 +50,8 @@ impl<'a> Stack<'a> {
     pub fn pop(&mut self) -> Result<u16, Fault>
         ensures said { Pops (pop_of self.old.entries) result self.new.entries }
         ensures room { self.new.room ≡ self.old.room }
+        ensures places { self.new.places ≡ self.old.places }
+        ensures kept { Kept result self.old self.new }
     {
         if self.len == 0 {
             return Err(Fault);
@@ -103,7 +105,7 @@ impl<'a> Model for Pool<'a> {
 
     ghost Value = { Pooled };
 
-    ghost view = { λ s. record { rows = pooled s.n s.counts.now s.places.now; places = s.places.now } };
+    ghost view = { λ s. record { rows = pooled s.n s.counts.now s.places.now; places = s.places.now; counts = s.counts.now } };
 
     ghost invariant = { λ s. PoolFits s.n s.counts.now s.places.now };
 }
@@ -155,6 +157,7 @@ impl<'a> Pool<'a> {
     pub fn rotate_row(&mut self, b: u16, i: u16)
         ensures said { (r : List ℕ) → at self.old.rows b ≡ ok r → put self.old.rows b (rotate i r) ≡ ok self.new.rows }
         ensures size { length self.new.rows ≡ length self.old.rows }
+        ensures counts { self.new.counts ≡ self.old.counts }
     {
         if b < self.n {
             return;

@@ -2,6 +2,7 @@ use Rattle.std.proofs.Common.{◌≡◌, ◌+◌, ◌*◌, ◌-◌, ◌<◌}
 use Rattle.matching.specs.Graph.{is_odd}
 use Rattle.steps.specs.State.{Progress}
 use Rattle.state.specs.Parts.{state_of, sized}
+use Rattle.state.specs.Keeps.{Turned}
 use Rattle.augment.specs.Turns.{round}
 use Rattle.augment.proofs.turn.+turning.Given as goal
 
@@ -26,4 +27,5 @@ invariant-turn_ring-loop l = record {
       ≡ round l.g l.depth l.b (is_odd l.i) (2 * l.g.nodes) l.i (state_of l.fn.lists at);
   near : l.place < 65535;
   size : sized l.lists ≡ sized l.fn.lists;
+  others : Turned l.fn.lists l.lists;
 }

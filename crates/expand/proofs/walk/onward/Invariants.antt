@@ -3,6 +3,7 @@ use Rattle.laws.specs.Run.{and_then, ok, while}
 use Rattle.steps.specs.State.{Progress}
 use Rattle.steps.specs.Expand.{onward_goes, onward_move}
 use Rattle.state.specs.Parts.{state_of, sized}
+use Rattle.state.specs.Keeps.{Relabelled}
 use Rattle.expand.specs.Parts.{to_entry}
 use Rattle.expand.specs.Told.{onward_at}
 use Rattle.expand.proofs.walk.onward.Given as goal
@@ -17,6 +18,7 @@ invariant-loop l =
       rest : (at : Progress) → and_then (while go step (2 * l.g.nodes - l.counter) (onward_at l.place (state_of l.lists at))) (λ o. ok o.state)
           ≡ to_entry l.g b forward l.entry l.fn.from (state_of l.fn.lists at);
       size : sized l.lists ≡ sized l.fn.lists;
+      others : Relabelled l.fn.lists l.lists;
       kids : l.lists.forest.kids ≡ l.fn.lists.forest.kids;
       room : l.nodes.room ≡ l.fn.nodes.room;
     }

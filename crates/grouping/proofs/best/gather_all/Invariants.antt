@@ -3,6 +3,7 @@ use Rattle.laws.specs.Run.{for_each}
 use Rattle.steps.specs.State.{Progress}
 use Rattle.steps.specs.Add.{gather}
 use Rattle.state.specs.Parts.{state_of, sized}
+use Rattle.state.specs.Keeps.{ButGathered, InLabels}
 use Rattle.grouping.specs.Parts.{gathered}
 use Rattle.grouping.proofs.best.gather_all.Given as goal
 
@@ -13,4 +14,5 @@ invariant-loop-c l = record {
   links : l.links.nodes ≡ l.fn.links.nodes;
   room : l.nodes.room ≡ l.fn.nodes.room;
   size : sized l.lists ≡ sized l.fn.lists;
+  others : InLabels l.fn.lists l.lists × ButGathered l.fn.lists.labels l.lists.labels;
 }

@@ -13,5 +13,6 @@ invariant-loop-p l = record {
   rest : (at : Progress) → is_closing at.phase ≡ false
       → visit_all is_group l.g l.v l.left (state_of l.lists at) ≡ visit_all is_group l.g l.v l.row (state_of l.fn.lists at);
   size : sized l.lists ≡ size_of l.g;
+  free : l.lists.forest.free_places ≡ l.fn.lists.forest.free_places;
   room : l.scratch ≡ l.g.nodes;
 }

@@ -29,6 +29,7 @@ loop-p-preserved-in-Pass c =
       best = l.invariant.best;
       kids = l.invariant.kids;
       size = l.invariant.size;
+      others = l.invariant.others;
       rest = λ turns here o.
           let looked = c.look.ensures turns here a.v top l.invariant.keen in
           let see = seen c.look.result Pass g b (p / 2) (visit turns g a.v p) l.lists here looked c.in-Pass.ensures in
@@ -55,6 +56,7 @@ loop-p-preserved c =
       best = λ at. only_best b (p / 2) l.lists s a.lists.now at (l.invariant.best at) (put at);
       kids = search rules;
       size = search rules;
+      others = search rules;
       rest = λ turns here o.
           owned turns g a.v p c.in-Some.rest.now (state_of l.lists here) (state_of s here) o ((see turns here).2 ∙ put here)
           ∙ rw (← first) (l.invariant.rest turns here o);
