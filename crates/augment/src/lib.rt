@@ -22,7 +22,7 @@ use state::lists::Lists;
 // The matching is augmented along both halves of the path over edge e; afterwards each mate names back.
 #[tactic(auto, unfolding(steps::specs::Augment::augment_matching))]
 pub fn augment_matching(g: &Graph, lists: &mut Lists, e: Edge) -> Result<(), Fault>
-    ensures said { (at : Progress) → Agrees (augment_matching_of is_group g.now e.0 (state_of lists.old at)) result (state_of lists.new at) }
+    ensures said { (at : Progress) → Agrees (augment_matching_of is_group g.now e (state_of lists.old at)) result (state_of lists.new at) }
     ensures size { sized lists.new ≡ sized lists.old }
 {
     let x = g.edge(e)?;

@@ -27,7 +27,7 @@ pub record GraphFits (n : ℕ) (ends : List ℕ) (weights : List ℤ) (offsets f
 
 -- the run x answers an edge
 abbrev pub AnswersEdgeAt : Run Edge → Result EdgeAt Fault → Type 0
-AnswersEdgeAt x (Ok k) = x ≡ ok (edge k.first.0 k.second.0 k.weight)
+AnswersEdgeAt x (Ok k) = x ≡ ok (edge k.first k.second k.weight)
 AnswersEdgeAt x (Err e) = x ≡ fault
 
 -- there is such an edge, so its number is below a limit

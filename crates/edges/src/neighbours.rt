@@ -49,7 +49,7 @@ fn place_ends(ends: &[u16], n: u16, offsets: &mut [u16], far: &mut [u16])
         if v < n {
             let k = offsets[v as usize] - 1;
             offsets[v as usize] = k;
-            far[k as usize] = End(p as u16).beside().number();
+            far[k as usize] = End::of(p as u16).beside().number();
         }
     }
 }

@@ -11,6 +11,7 @@ use crate::request::Request;
 use certificate::answers::Condition;
 use certificate::judge;
 use search::search::Search;
+use state::pools::copy;
 use std::marker::Model;
 
 #[derive(Drop)]
@@ -85,8 +86,8 @@ impl<'a> Found<'a> {
         ensures parents { parents.new ≡ self.now.certificate.parents ++ drop (2 * self.now.nodes) parents.old }
     {
         let n = self.n as usize;
-        mates[..n].copy_from_slice(self.mates);
-        duals[..2 * n].copy_from_slice(self.duals);
-        parents[..2 * n].copy_from_slice(self.parents);
+        copy(self.mates, &mut mates[..n]);
+        copy(self.duals, &mut duals[..2 * n]);
+        copy(self.parents, &mut parents[..2 * n]);
     }
 }

@@ -58,13 +58,13 @@ pub fn adjust(
 #[tactic(auto, unfolding(steps::specs::Steps::close_group))]
 fn close_group(g: &Graph, lists: &mut Lists, scratch: &mut Scratch, b: Group) -> Result<(), Fault>
     requires { (sized lists.old ≡ size_of g.now) × (scratch.old ≡ g.now.nodes) }
-    ensures said { (at : Progress) → Agrees (close_group_of g.now b.0 (state_of lists.old at)) result (state_of lists.new at) }
+    ensures said { (at : Progress) → Agrees (close_group_of g.now b (state_of lists.old at)) result (state_of lists.new at) }
     ensures size { sized lists.new ≡ sized lists.old }
     ensures room { scratch.new ≡ scratch.old }
 {
     let outermost = lists.is_outermost(b)?;
-    let l = lists.label(b.0)?;
-    let d = lists.dual(b.0)?;
+    let l = lists.label(b.number())?;
+    let d = lists.dual(b.number())?;
     if outermost && l == 1 && d == 0 {
         scratch.expand(g, lists, true, b)?;
     }
@@ -79,7 +79,7 @@ pub fn close_groups(g: &Graph, lists: &mut Lists, scratch: &mut Scratch) -> Resu
     ensures room { scratch.new ≡ scratch.old }
 {
     for b in g.nodes()..g.numbers() {
-        close_group(g, lists, scratch, Group(b))?;
+        close_group(g, lists, scratch, Group::of(b))?;
     }
     Ok(())
 }

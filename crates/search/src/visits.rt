@@ -29,7 +29,7 @@ fn join(
     e: Edge,
 ) -> Result<bool, Fault>
     requires { (sized lists.old ≡ size_of g.now) × (scratch.old ≡ g.now.nodes) }
-    ensures said { (at : Progress) → Visits (join_of is_group g.now v.0 w.0 e.0 (state_of lists.old at)) result lists.new at }
+    ensures said { (at : Progress) → Visits (join_of is_group g.now v w e (state_of lists.old at)) result lists.new at }
     ensures size { sized lists.new ≡ sized lists.old }
     ensures room { scratch.new ≡ scratch.old }
 {
@@ -52,7 +52,7 @@ fn use_edge(
     p: End,
 ) -> Result<bool, Fault>
     requires { (sized lists.old ≡ size_of g.now) × (scratch.old ≡ g.now.nodes) }
-    ensures said { (at : Progress) → Visits (use_edge_of is_group g.now v.0 met.node.0 p.0 met.group_label met.label (state_of lists.old at)) result lists.new at }
+    ensures said { (at : Progress) → Visits (use_edge_of is_group g.now v met.node p met.group_label met.label (state_of lists.old at)) result lists.new at }
     ensures size { sized lists.new ≡ sized lists.old }
     ensures room { scratch.new ≡ scratch.old }
 {
@@ -71,7 +71,7 @@ fn use_edge(
 
 // The slack of edge e, which counts as 0 where the edge is allowed.
 fn slack(g: &Graph, lists: &Lists, allowed: bool, e: Edge) -> Result<i64, Fault>
-    ensures { Answers (if allowed then ok (pos 0) else slack_of g.now lists.now.pairing.lists.duals e.0) result }
+    ensures { Answers (if allowed then ok (pos 0) else slack_of g.now lists.now.pairing.lists.duals e) result }
 {
     if allowed { Ok(0) } else { lists.slack(g, e) }
 }
@@ -87,7 +87,7 @@ fn pass_edge(
     p: End,
 ) -> Result<bool, Fault>
     requires { (sized lists.old ≡ size_of g.now) × (scratch.old ≡ g.now.nodes) }
-    ensures said { (at : Progress) → Visits (pass_edge_of is_group g.now v.0 w.0 p.0 (state_of lists.old at)) result lists.new at }
+    ensures said { (at : Progress) → Visits (pass_edge_of is_group g.now v w p (state_of lists.old at)) result lists.new at }
     ensures size { sized lists.new ≡ sized lists.old }
     ensures room { scratch.new ≡ scratch.old }
 {
@@ -99,8 +99,8 @@ fn pass_edge(
     }
     let now = lists.is_allowed(e)?;
     let t = lists.top(w)?;
-    let group_label = lists.label(t.0)?;
-    let label = lists.label(w.0)?;
+    let group_label = lists.label(t.number())?;
+    let label = lists.label(w.number())?;
     let met = Met {
         node: w,
         group_label,
@@ -123,7 +123,7 @@ fn visit(
     p: End,
 ) -> Result<bool, Fault>
     requires { (sized lists.old ≡ size_of g.now) × (scratch.old ≡ g.now.nodes) }
-    ensures said { (at : Progress) → Visits (visit_of is_group g.now v.0 p.0 (state_of lists.old at)) result lists.new at }
+    ensures said { (at : Progress) → Visits (visit_of is_group g.now v p (state_of lists.old at)) result lists.new at }
     ensures size { sized lists.new ≡ sized lists.old }
     ensures room { scratch.new ≡ scratch.old }
 {
@@ -146,13 +146,13 @@ pub(crate) fn visit_all(
     row: &[u16],
 ) -> Result<bool, Fault>
     requires { (sized lists.old ≡ size_of g.now) × (scratch.old ≡ g.now.nodes) }
-    ensures said { (at : Progress) → is_closing at.phase ≡ false → Visits (visit_all_of is_group g.now v.0 row.now (state_of lists.old at)) result lists.new at }
+    ensures said { (at : Progress) → is_closing at.phase ≡ false → Visits (visit_all_of is_group g.now v row.now (state_of lists.old at)) result lists.new at }
     ensures size { sized lists.new ≡ sized lists.old }
     ensures room { scratch.new ≡ scratch.old }
 {
     let mut left = row;
     while let Some((&p, rest)) = look_on(g, lists, v, left).split_first() {
-        if visit(g, lists, scratch, v, End(p))? {
+        if visit(g, lists, scratch, v, End::of(p))? {
             return Ok(true);
         }
         left = rest;

@@ -3,7 +3,7 @@ ghost use Rattle.std.specs.Prelude.{◌≡◌};
 ghost use Rattle.matching.specs.Graph.{edge};
 ghost use Rattle.steps.specs.State.{Progress};
 ghost use Rattle.steps.specs.Adjust.{resume as resume_of, labelled_end as labelled_end_of, follow2, follow3};
-ghost use Rattle.numbers.specs.Answers.{AnswersNode, Agrees};
+ghost use Rattle.numbers.specs.Answers.{Answers, Agrees};
 ghost use Rattle.state.specs.Parts.{state_of, sized, size_of};
 
 use edges::graph::{EdgeAt, Graph};
@@ -15,12 +15,12 @@ use state::lists::Lists;
 #[tactic(auto, unfolding(steps::specs::Adjust::resume))]
 fn resume(g: &Graph, lists: &mut Lists, v: Node) -> Result<(), Fault>
     requires { sized lists.old ≡ size_of g.now }
-    ensures said { (at : Progress) → Agrees (resume_of g.now v.0 (state_of lists.old at)) result (state_of lists.new at) }
+    ensures said { (at : Progress) → Agrees (resume_of g.now v (state_of lists.old at)) result (state_of lists.new at) }
     ensures size { sized lists.new ≡ sized lists.old }
     ensures kids { lists.new.forest.kids ≡ lists.old.forest.kids }
 {
     let t = lists.top(v)?;
-    let l = lists.label(t.0)?;
+    let l = lists.label(t.number())?;
     must(l == 1)?;
     lists.enqueue(g, v)
 }
@@ -28,10 +28,10 @@ fn resume(g: &Graph, lists: &mut Lists, v: Node) -> Result<(), Fault>
 // The end of edge x in a label-1 group: the second where the first is free.
 #[tactic(auto, unfolding(steps::specs::Adjust::labelled_end))]
 fn labelled_end(lists: &Lists, x: EdgeAt) -> Result<Node, Fault>
-    ensures { (at : Progress) → AnswersNode (labelled_end_of (state_of lists.now at) (edge x.first.0 x.second.0 x.weight)) result }
+    ensures { (at : Progress) → Answers (labelled_end_of (state_of lists.now at) (edge x.first x.second x.weight)) result }
 {
     let t = lists.top(x.first)?;
-    let l = lists.label(t.0)?;
+    let l = lists.label(t.number())?;
     if l == 0 {
         return Ok(x.second);
     }
@@ -42,7 +42,7 @@ fn labelled_end(lists: &Lists, x: EdgeAt) -> Result<Node, Fault>
 #[tactic(auto, unfolding(steps::specs::Adjust::follow2))]
 pub fn follow_two(g: &Graph, lists: &mut Lists, e: Edge) -> Result<(), Fault>
     requires { sized lists.old ≡ size_of g.now }
-    ensures said { (at : Progress) → Agrees (follow2 g.now e.0 (state_of lists.old at)) result (state_of lists.new at) }
+    ensures said { (at : Progress) → Agrees (follow2 g.now e (state_of lists.old at)) result (state_of lists.new at) }
     ensures size { sized lists.new ≡ sized lists.old }
     ensures kids { lists.new.forest.kids ≡ lists.old.forest.kids }
 {
@@ -56,7 +56,7 @@ pub fn follow_two(g: &Graph, lists: &mut Lists, e: Edge) -> Result<(), Fault>
 #[tactic(auto, unfolding(steps::specs::Adjust::follow3))]
 pub fn follow_three(g: &Graph, lists: &mut Lists, e: Edge) -> Result<(), Fault>
     requires { sized lists.old ≡ size_of g.now }
-    ensures said { (at : Progress) → Agrees (follow3 g.now e.0 (state_of lists.old at)) result (state_of lists.new at) }
+    ensures said { (at : Progress) → Agrees (follow3 g.now e (state_of lists.old at)) result (state_of lists.new at) }
     ensures size { sized lists.new ≡ sized lists.old }
     ensures kids { lists.new.forest.kids ≡ lists.old.forest.kids }
 {

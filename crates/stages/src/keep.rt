@@ -21,21 +21,21 @@ pub struct Met {
 // A node of a label-2 group is reached for the first time.
 #[tactic(auto, unfolding(steps::specs::Steps::reach))]
 pub fn reach(lists: &mut Lists, w: Node, p: End) -> Result<(), Fault>
-    ensures said { (at : Progress) → Agrees (reach_of w.0 p.0 (state_of lists.old at)) result (state_of lists.new at) }
+    ensures said { (at : Progress) → Agrees (reach_of w p (state_of lists.old at)) result (state_of lists.new at) }
     ensures size { sized lists.new ≡ sized lists.old }
     ensures kids { lists.new.forest.kids ≡ lists.old.forest.kids }
 {
     let t = lists.top(w)?;
-    let l = lists.label(t.0)?;
+    let l = lists.label(t.number())?;
     must(l == 2)?;
-    lists.put_label(w.0, 2)?;
-    lists.put_label_end(w.0, p.beside())
+    lists.put_label(w.number(), 2)?;
+    lists.put_label_end(w.number(), p.beside())
 }
 
 // The edge e of slack k is the best one yet at node or group i.
 #[tactic(auto, unfolding(steps::specs::Steps::keep_best))]
 fn keep_best(g: &Graph, lists: &mut Lists, i: u16, e: Edge, k: i64) -> Result<(), Fault>
-    ensures said { (at : Progress) → Agrees (keep_best_of g.now i e.0 k (state_of lists.old at)) result (state_of lists.new at) }
+    ensures said { (at : Progress) → Agrees (keep_best_of g.now i e k (state_of lists.old at)) result (state_of lists.new at) }
     ensures size { sized lists.new ≡ sized lists.old }
     ensures kids { lists.new.forest.kids ≡ lists.old.forest.kids }
 {
@@ -60,15 +60,15 @@ pub fn keep_edge(
     e: Edge,
     k: i64,
 ) -> Result<(), Fault>
-    ensures said { (at : Progress) → Agrees (keep_edge_of g.now v.0 met.node.0 e.0 met.group_label met.label k (state_of lists.old at)) result (state_of lists.new at) }
+    ensures said { (at : Progress) → Agrees (keep_edge_of g.now v met.node e met.group_label met.label k (state_of lists.old at)) result (state_of lists.new at) }
     ensures size { sized lists.new ≡ sized lists.old }
     ensures kids { lists.new.forest.kids ≡ lists.old.forest.kids }
 {
     if met.group_label == 1 {
         let b = lists.top(v)?;
-        keep_best(g, lists, b.0, e, k)?;
+        keep_best(g, lists, b.number(), e, k)?;
     } else if met.label == 0 {
-        keep_best(g, lists, met.node.0, e, k)?;
+        keep_best(g, lists, met.node.number(), e, k)?;
     }
     Ok(())
 }

@@ -16,15 +16,15 @@ use state::lists::Lists;
 #[tactic(auto, unfolding(steps::specs::Steps::root_at))]
 fn root_at(g: &Graph, lists: &mut Lists, v: Node) -> Result<(), Fault>
     requires { sized lists.old ≡ size_of g.now }
-    ensures said { (at : Progress) → Agrees (root_at_of g.now v.0 (state_of lists.old at)) result (state_of lists.new at) }
+    ensures said { (at : Progress) → Agrees (root_at_of g.now v (state_of lists.old at)) result (state_of lists.new at) }
     ensures size { sized lists.new ≡ sized lists.old }
     ensures kids { lists.new.forest.kids ≡ lists.old.forest.kids }
 {
     let m = lists.mate(v)?;
     let t = lists.top(v)?;
-    let l = lists.label(t.0)?;
+    let l = lists.label(t.number())?;
     if m.is_missing() && l == 0 {
-        lists.label_one(g, v, End(MISSING))?;
+        lists.label_one(g, v, End::of(MISSING))?;
     }
     Ok(())
 }
@@ -38,7 +38,7 @@ fn roots(g: &Graph, lists: &mut Lists) -> Result<(), Fault>
     ensures kids { lists.new.forest.kids ≡ lists.old.forest.kids }
 {
     for v in 0..g.nodes() {
-        root_at(g, lists, Node(v))?;
+        root_at(g, lists, Node::of(v))?;
     }
     Ok(())
 }

@@ -37,17 +37,17 @@ fn put_fit_dual(lists: &mut Lists, i: u16, d: i64) -> Result<(), Fault>
 #[tactic(auto, unfolding(steps::specs::Adjust::move_node))]
 fn move_node(lists: &mut Lists, delta: i64, v: Node) -> Result<(), Fault>
     requires { nat_abs delta ≤ 18014398509481984 }
-    ensures said { (at : Progress) → Agrees (move_node_of delta v.0 (state_of lists.old at)) result (state_of lists.new at) }
+    ensures said { (at : Progress) → Agrees (move_node_of delta v (state_of lists.old at)) result (state_of lists.new at) }
     ensures size { sized lists.new ≡ sized lists.old }
     ensures kids { lists.new.forest.kids ≡ lists.old.forest.kids }
 {
     let t = lists.top(v)?;
-    let l = lists.label(t.0)?;
-    let d = lists.dual(v.0)?;
+    let l = lists.label(t.number())?;
+    let d = lists.dual(v.number())?;
     if l == 1 {
-        put_fit_dual(lists, v.0, d - delta)?;
+        put_fit_dual(lists, v.number(), d - delta)?;
     } else if l == 2 {
-        put_fit_dual(lists, v.0, d + delta)?;
+        put_fit_dual(lists, v.number(), d + delta)?;
     }
     Ok(())
 }
@@ -56,19 +56,19 @@ fn move_node(lists: &mut Lists, delta: i64, v: Node) -> Result<(), Fault>
 #[tactic(auto, unfolding(steps::specs::Adjust::move_group))]
 fn move_group(lists: &mut Lists, delta: i64, b: Group) -> Result<(), Fault>
     requires { nat_abs delta ≤ 18014398509481984 }
-    ensures said { (at : Progress) → Agrees (move_group_of delta b.0 (state_of lists.old at)) result (state_of lists.new at) }
+    ensures said { (at : Progress) → Agrees (move_group_of delta b (state_of lists.old at)) result (state_of lists.new at) }
     ensures size { sized lists.new ≡ sized lists.old }
     ensures kids { lists.new.forest.kids ≡ lists.old.forest.kids }
 {
     if !lists.is_outermost(b)? {
         return Ok(());
     }
-    let t = lists.label(b.0)?;
-    let d = lists.dual(b.0)?;
+    let t = lists.label(b.number())?;
+    let d = lists.dual(b.number())?;
     if t == 1 {
-        put_fit_dual(lists, b.0, d + delta)?;
+        put_fit_dual(lists, b.number(), d + delta)?;
     } else if t == 2 {
-        put_fit_dual(lists, b.0, d - delta)?;
+        put_fit_dual(lists, b.number(), d - delta)?;
     }
     Ok(())
 }
@@ -81,7 +81,7 @@ fn move_nodes(g: &Graph, lists: &mut Lists, delta: i64) -> Result<(), Fault>
     ensures kids { lists.new.forest.kids ≡ lists.old.forest.kids }
 {
     for v in 0..g.nodes() {
-        move_node(lists, delta, Node(v))?;
+        move_node(lists, delta, Node::of(v))?;
     }
     Ok(())
 }
@@ -94,7 +94,7 @@ fn move_groups(g: &Graph, lists: &mut Lists, delta: i64) -> Result<(), Fault>
     ensures kids { lists.new.forest.kids ≡ lists.old.forest.kids }
 {
     for b in g.nodes()..g.numbers() {
-        move_group(lists, delta, Group(b))?;
+        move_group(lists, delta, Group::of(b))?;
     }
     Ok(())
 }

@@ -17,7 +17,7 @@ impl<'a> Forest<'a> {
         ensures kids { self.new.kids ≡ self.old.kids }
     {
         let b = self.free.pop()?;
-        Ok(Group(b))
+        Ok(Group::of(b))
     }
 }
 

@@ -5,7 +5,7 @@ ghost use Rattle.laws.specs.Run.{at};
 ghost use Rattle.steps.specs.State.{Forest as ForestOf, Labelling as LabellingOf, Progress};
 ghost use Rattle.steps.specs.Stores.{put_mate, put_dual};
 ghost use Rattle.steps.specs.Ends.{slack_of, tighter as tighter_of};
-ghost use Rattle.numbers.specs.Answers.{Answers, AnswersEnd, Agrees};
+ghost use Rattle.numbers.specs.Answers.{Answers, Agrees};
 ghost use Rattle.state.specs.Parts.{whole};
 
 use edges::graph::Graph;
@@ -34,10 +34,10 @@ impl<'a> Model for Pairing<'a> {
 impl<'a> Pairing<'a> {
     // The end at the mate of node v, which may be missing.
     pub fn mate(&self, v: Node) -> Result<End, Fault>
-        ensures { AnswersEnd (at self.now.lists.mates v.0) result }
+        ensures { Answers (at self.now.lists.mates v) result }
     {
-        let p = read(self.mates, v.0)?;
-        Ok(End(p))
+        let p = read(self.mates, v.number())?;
+        Ok(End::of(p))
     }
 
     // The dual of a node or group.
@@ -49,10 +49,10 @@ impl<'a> Pairing<'a> {
     }
 
     pub fn set_mate(&mut self, v: Node, p: End) -> Result<(), Fault>
-        ensures said { (f : ForestOf) (l : LabellingOf) (at : Progress) → Agrees (put_mate v.0 p.0 (whole f l self.old.lists at)) result (whole f l self.new.lists at) }
+        ensures said { (f : ForestOf) (l : LabellingOf) (at : Progress) → Agrees (put_mate v p (whole f l self.old.lists at)) result (whole f l self.new.lists at) }
         ensures size { self.new.nodes ≡ self.old.nodes }
     {
-        store(self.mates, v.0, p.0)
+        store(self.mates, v.number(), p.number())
     }
 
     pub fn set_dual(&mut self, i: u16, d: i64) -> Result<(), Fault>
@@ -65,7 +65,7 @@ impl<'a> Pairing<'a> {
 
     // The two duals at edge e less twice its weight.
     pub fn slack(&self, g: &Graph, e: Edge) -> Result<i64, Fault>
-        ensures said { Answers (slack_of g.now self.now.lists.duals e.0) result }
+        ensures said { Answers (slack_of g.now self.now.lists.duals e) result }
         ensures near { IfOk result (λ k. nat_abs k ≤ 18014398509481984) }
     {
         g.slack(self.duals, e)
@@ -73,7 +73,7 @@ impl<'a> Pairing<'a> {
 
     // Whether the slack of edge d is below that of edge e.
     pub fn tighter(&self, g: &Graph, d: Edge, e: Edge) -> Result<bool, Fault>
-        ensures { Answers (tighter_of g.now self.now.lists.duals d.0 e.0) result }
+        ensures { Answers (tighter_of g.now self.now.lists.duals d e) result }
     {
         g.tighter(self.duals, d, e)
     }

@@ -191,23 +191,38 @@ impl<'a> Pool<'a> {
     }
 }
 
+// A list becomes a copy of another. Entry by entry: the slice's copy_from_slice is compiled to a call of memmove, which the C library
+// would have to bring.
+pub fn copy<T: Copy>(from: &[T], to: &mut [T])
+    requires { length from.now ≡ length to.old }
+    ensures { to.new ≡ from.now }
+{
+    let mut i = 0;
+    while i < from.len() {
+        to[i] = from[i];
+        i += 1;
+    }
+}
+
 // A list's places from one on become these.
 pub fn write_at(list: &mut [u16], from: usize, items: &[u16])
     requires { from + length items.now ≤ length list.old }
     ensures { list.new ≡ take from list.old ++ (items.now ++ drop (from + length items.now) list.old) }
 {
     let to = from + items.len();
-    list[from..to].copy_from_slice(items);
+    copy(items, &mut list[from..to]);
 }
 
-// A part of a list with its place k first.
+// A part of a list with its place k first: both parts in reverse order, and then the whole. The slice's rotate_left would call memmove.
 #[tactic(auto, unfolding(steps::specs::Ring::rotate))]
 pub fn rotate_at(list: &mut [u16], from: usize, count: usize, k: usize)
     requires { (from + count ≤ length list.old) × (k ≤ count) }
     ensures { list.new ≡ take from list.old ++ (rotate k (take count (drop from list.old)) ++ drop (from + count) list.old) }
 {
-    let to = from + count;
-    list[from..to].rotate_left(k);
+    let part = &mut list[from..from + count];
+    part[..k].reverse();
+    part[k..].reverse();
+    part.reverse();
 }
 
 // The nodes of b go on the end of out.

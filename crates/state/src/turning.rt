@@ -12,17 +12,17 @@ use numbers::Group;
 
 impl<'a> Forest<'a> {
     pub fn turn_children(&mut self, b: Group, i: u16)
-        ensures said { (r : List ℕ) → at self.old.lists.children b.0 ≡ ok r → (l : Labelling) (q : Pairing) (p : Progress) → put_children b.0 (rotate i r) (whole self.old.lists l q p) ≡ ok (whole self.new.lists l q p) }
+        ensures said { (r : List ℕ) → at self.old.lists.children b ≡ ok r → (l : Labelling) (q : Pairing) (p : Progress) → put_children b (rotate i r) (whole self.old.lists l q p) ≡ ok (whole self.new.lists l q p) }
         ensures size { self.new.nodes ≡ self.old.nodes }
     {
-        self.children.rotate_row(b.0, i);
+        self.children.rotate_row(b.number(), i);
     }
 
     pub fn turn_ring_ends(&mut self, b: Group, i: u16)
-        ensures said { (r : List ℕ) → at self.old.lists.ring_ends b.0 ≡ ok r → (l : Labelling) (q : Pairing) (p : Progress) → put_ring_ends b.0 (rotate i r) (whole self.old.lists l q p) ≡ ok (whole self.new.lists l q p) }
+        ensures said { (r : List ℕ) → at self.old.lists.ring_ends b ≡ ok r → (l : Labelling) (q : Pairing) (p : Progress) → put_ring_ends b (rotate i r) (whole self.old.lists l q p) ≡ ok (whole self.new.lists l q p) }
         ensures size { self.new.nodes ≡ self.old.nodes }
     {
-        self.ring_ends.rotate_row(b.0, i);
+        self.ring_ends.rotate_row(b.number(), i);
     }
 }
 
@@ -30,7 +30,7 @@ impl<'a> Forest<'a> {
 impl<'a> Lists<'a> {
     // The children of group b, with place i first; they stay as they are where there is no such place.
     pub fn turn_children(&mut self, b: Group, i: u16)
-        ensures said { (r : List ℕ) → at self.old.forest.lists.children b.0 ≡ ok r → (p : Progress) → put_children b.0 (rotate i r) (state_of self.old p) ≡ ok (state_of self.new p) }
+        ensures said { (r : List ℕ) → at self.old.forest.lists.children b ≡ ok r → (p : Progress) → put_children b (rotate i r) (state_of self.old p) ≡ ok (state_of self.new p) }
         ensures size { sized self.new ≡ sized self.old }
     {
         self.forest.turn_children(b, i);
@@ -38,7 +38,7 @@ impl<'a> Lists<'a> {
 
     // The ring ends of group b, likewise.
     pub fn turn_ring_ends(&mut self, b: Group, i: u16)
-        ensures said { (r : List ℕ) → at self.old.forest.lists.ring_ends b.0 ≡ ok r → (p : Progress) → put_ring_ends b.0 (rotate i r) (state_of self.old p) ≡ ok (state_of self.new p) }
+        ensures said { (r : List ℕ) → at self.old.forest.lists.ring_ends b ≡ ok r → (p : Progress) → put_ring_ends b (rotate i r) (state_of self.old p) ≡ ok (state_of self.new p) }
         ensures size { sized self.new ≡ sized self.old }
     {
         self.forest.turn_ring_ends(b, i);

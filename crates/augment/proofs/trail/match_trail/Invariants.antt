@@ -10,7 +10,7 @@ use Rattle.augment.proofs.trail.match_trail.Given as goal
 abbrev pub invariant-loop : goal.invariant-loop
 invariant-loop l = record {
   rest : (at : Progress)
-      → while trail_goes (trail_move is_group l.g) (2 * l.g.nodes - l.counter) (on_trail l.here.v.0 l.here.p.0 false (state_of l.lists at))
-      ≡ while trail_goes (trail_move is_group l.g) (2 * l.g.nodes) (on_trail l.fn.v.0 l.fn.p.0 false (state_of l.fn.lists at));
+      → while trail_goes (trail_move is_group l.g) (2 * l.g.nodes - l.counter) (on_trail l.here.v l.here.p false (state_of l.lists at))
+      ≡ while trail_goes (trail_move is_group l.g) (2 * l.g.nodes) (on_trail l.fn.v l.fn.p false (state_of l.fn.lists at));
   size : sized l.lists ≡ sized l.fn.lists;
 }

@@ -7,8 +7,8 @@ use Rattle.expand.proofs.free.bring_top.Given as goal
 
 abbrev pub invariant-loop-v : goal.invariant-loop-v
 invariant-loop-v l = record {
-  rest : (at : Progress) → for_each (bring_top l.c.0) (drop l.v-index l.nodes) (state_of l.lists at)
-      ≡ for_each (bring_top l.c.0) l.nodes (state_of l.fn.lists at);
+  rest : (at : Progress) → for_each (bring_top l.c) (drop l.v-index l.nodes) (state_of l.lists at)
+      ≡ for_each (bring_top l.c) l.nodes (state_of l.fn.lists at);
   size : sized l.lists ≡ sized l.fn.lists;
   kids : l.lists.forest.kids ≡ l.fn.lists.forest.kids;
 }

@@ -8,8 +8,8 @@ use Rattle.grouping.proofs.best.gather_all.Given as goal
 
 abbrev pub invariant-loop-c : goal.invariant-loop-c
 invariant-loop-c l = record {
-  rest : (at : Progress) → for_each (gather l.g l.new.0) (drop l.c-index l.kids) (gathered l.links.links (state_of l.lists at))
-      ≡ for_each (gather l.g l.new.0) l.kids (gathered l.fn.links.links (state_of l.fn.lists at));
+  rest : (at : Progress) → for_each (gather l.g l.new) (drop l.c-index l.kids) (gathered l.links.links (state_of l.lists at))
+      ≡ for_each (gather l.g l.new) l.kids (gathered l.fn.links.links (state_of l.fn.lists at));
   links : l.links.nodes ≡ l.fn.links.nodes;
   room : l.nodes.room ≡ l.fn.nodes.room;
   size : sized l.lists ≡ sized l.fn.lists;

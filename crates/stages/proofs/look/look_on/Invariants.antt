@@ -12,10 +12,10 @@ decreases-loop-p l = length l.left
 abbrev pub invariant-loop-p : goal.invariant-loop-p
 invariant-loop-p l = record {
   end : l.left ≡ drop (length l.row - length l.left) l.row;
-  keen : Keen l.g l.lists l.group.0 l.keen;
+  keen : Keen l.g l.lists l.group l.keen;
   best : (at : Progress) → state_of l.lists at ≡ with_best l.lists.labels.lists.best (state_of l.fn.lists at);
   kids : l.lists.forest.kids ≡ l.fn.lists.forest.kids;
   size : sized l.lists ≡ sized l.fn.lists;
   rest : (turns : Turns) (at : Progress) → is_closing at.phase ≡ false
-      → visit_all turns l.g l.fn.v.0 l.left (state_of l.lists at) ≡ visit_all turns l.g l.fn.v.0 l.row (state_of l.fn.lists at);
+      → visit_all turns l.g l.fn.v l.left (state_of l.lists at) ≡ visit_all turns l.g l.fn.v l.row (state_of l.fn.lists at);
 }
