@@ -27,7 +27,7 @@ returns-then-tight-clause-said c at =
     let a = c.args in let j = c.number-k.result in
     let n = rw (← c.self.view_is) at c.requires.0 in
     let near = rw c.requires.1 at c.in_ok-l.ensures.near in
-    rw (← c.number-k.ensures, ← c.self.view_is, c.number-then-tight.ensures)
+    rw (← c.number-k.ensures, ← c.self.view_is, c.number.ensures)
     (insert_tighter a.g.now (state_of a.lists.now at) j a.e n c.self.invariant near c.in_ok-l.ensures.said c.if-l-ne1.false
     c.if-at-len.true (rw (c.if-tight.true, c.of.ensures) at c.in_ok-tight.ensures))
 
@@ -54,7 +54,7 @@ returns-clause-said c at =
     let a = c.args in let j = c.number-k.result in
     let n = rw (← c.self.view_is) at c.requires.0 in
     let near = rw c.requires.1 at c.in_ok-l.ensures.near in
-    rw (← c.number-k.ensures, ← c.self.view_is, c.number.ensures)
+    rw (← c.number-k.ensures, ← c.self.view_is, c.number-2.ensures)
     (insert_more a.g.now (state_of a.lists.now at) j a.e n c.self.invariant near c.in_ok-l.ensures.said c.if-l-ne1.false
     c.if-at-len.false c.if-len-self.false)
 
@@ -64,6 +64,6 @@ invariant_of-self-2 c =
     let a = c.args in let j = c.number-k.result in
     let n = rw (← c.self.view_is) at c.requires.0 in
     let near = rw c.requires.1 at c.in_ok-l.ensures.near in
-    rw c.number.ensures
+    rw c.number-2.ensures
     (fit_more a.g.now (state_of a.lists.now at) j a.e n c.self.invariant near c.in_ok-l.ensures.said c.if-l-ne1.false
     c.if-at-len.false c.if-len-self.false)
