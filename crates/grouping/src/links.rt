@@ -76,12 +76,12 @@ impl<'a> Links<'a> {
         ensures said { (at : Progress) → Agrees (consider_to_of g.now (state_of lists.now at) j e self.old.links) result self.new.links }
         ensures size { self.new.nodes ≡ self.old.nodes }
     {
-        let l = lists.label(j.number())?;
+        let k = j.number();
+        let l = lists.label(k)?;
         let len = self.len;
         if l != 1 {
             return Ok(());
         }
-        let k = j.number();
         let at = self.seat[k as usize];
         if at < len {
             let tight = lists.tighter(g, e, Edge::of(self.edges[at as usize]))?;

@@ -13,4 +13,4 @@ pub returns-clause-said : goal.returns-clause-said
 returns-clause-said c at =
     let a = c.args in
     gather_ends a.g.now a.new a.c a.links.now.links (state_of a.lists.now at) _ _ _ c.put_best.result (c.in_ok-consider_child.ensures.said at)
-    (c.in_ok-clear_best_list.ensures.said at) (c.put_best.ensures.said at)
+    (c.in_ok-clear_best_list.ensures.said at) (rw (c.number.ensures, c.of.ensures) at (c.put_best.ensures.said at))
