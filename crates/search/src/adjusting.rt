@@ -1,12 +1,12 @@
 // Adjusting the duals with what follows, and the groups that a stage's end expands.
-ghost use Rattle.std.specs.Prelude.{◌≡◌};
+ghost use Rattle.std.specs.Prelude.{◌≡◌, ◌≤◌, nat_abs};
 ghost use Rattle.laws.specs.Run.{for_range};
 ghost use Rattle.steps.specs.State.{Progress};
 ghost use Rattle.steps.specs.Steps.{close_group as close_group_of};
 ghost use Rattle.steps.specs.Adjust.{follow as follow_of, adjust_duals as adjust_duals_of};
 ghost use Rattle.numbers.specs.Answers.{Agrees};
 ghost use Rattle.state.specs.Parts.{state_of, sized, size_of};
-ghost use Rattle.stages.specs.Deltas.{amount_of, Small};
+ghost use Rattle.stages.specs.Deltas.{typed};
 ghost use Rattle.search.specs.Visits.{Follows};
 ghost use Rattle.state.specs.Keeps.{Adjusted, Closed};
 
@@ -19,18 +19,25 @@ use stages::follow::{follow_three, follow_two};
 use stages::shift::move_duals;
 use state::lists::Lists;
 
-// The duals move by an amount, and what its type says follows. The answer is whether the search ends.
+// The duals move by an amount, and what its type says follows. The answer is whether the search ends. The two by themselves, and no Delta:
+// today's rattle builds no proof where a struct holds an enum that holds an edge, and the enum is matched within it.
 #[tactic(auto, unfolding(steps::specs::Adjust::follow))]
-fn follow(g: &Graph, lists: &mut Lists, scratch: &mut Scratch, d: Delta) -> Result<bool, Fault>
+fn follow(
+    g: &Graph,
+    lists: &mut Lists,
+    scratch: &mut Scratch,
+    amount: i64,
+    by: By,
+) -> Result<bool, Fault>
     requires ready { (sized lists.old ≡ size_of g.now) × (scratch.old ≡ g.now.nodes) }
-    requires small { Small d }
-    ensures said { (at : Progress) → Follows (follow_of g.now (amount_of d) (state_of lists.old at)) result lists.new at }
+    requires small { nat_abs amount ≤ 18014398509481984 }
+    ensures said { (at : Progress) → Follows (follow_of g.now (typed by amount) (state_of lists.old at)) result lists.new at }
     ensures size { sized lists.new ≡ sized lists.old }
     ensures room { scratch.new ≡ scratch.old }
     ensures others { Adjusted lists.old lists.new }
 {
-    move_duals(g, lists, d.amount)?;
-    match d.by {
+    move_duals(g, lists, amount)?;
+    match by {
         By::One => return Ok(true),
         By::Two(e) => follow_two(g, lists, e)?,
         By::Three(e) => follow_three(g, lists, e)?,
@@ -53,8 +60,8 @@ pub fn adjust(
     ensures room { scratch.new ≡ scratch.old }
     ensures others { Adjusted lists.old lists.new }
 {
-    let d = choose(g, lists, flag)?;
-    follow(g, lists, scratch, d)
+    let Delta { amount, by } = choose(g, lists, flag)?;
+    follow(g, lists, scratch, amount, by)
 }
 
 // An outermost label-1 group with dual 0 is expanded.

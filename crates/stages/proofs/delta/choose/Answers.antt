@@ -8,6 +8,6 @@ pub returns-clause-said : goal.returns-clause-said
 unfolding choose_delta
 returns-clause-said c at =
     let k = c.in_ok-amount.field-0.amount in
-    rw (to_z-of_z w64 k (fits_near k (omega (arith, c.in_ok-amount.ensures.small))), c.in_ok-one.ensures.said at, c.in_ok-two.ensures.said at,
-    c.in_ok-three.ensures.said at, c.in_ok-four.ensures.said at)
+    let plain = to_z-of_z w64 k (fits_near k (omega (arith, c.in_ok-amount.ensures.small))) in
+    rw (plain, c.in_ok-one.ensures.said at, c.in_ok-two.ensures.said at, c.in_ok-three.ensures.said at, c.in_ok-four.ensures.said at)
     (c.in_ok-amount.ensures.said at)

@@ -7,4 +7,6 @@ pub returns-then-not-is_missing-clause-said : goal.returns-then-not-is_missing-c
 unfolding delta2_at
 returns-then-not-is_missing-clause-said c at =
     let there : is_missing c.in_ok-e.e ≡ false = sym c.is_missing.ensures ∙ c.if-not-is_missing.true in
-    rw (c.in_ok-t.ensures.said, rw c.number.ensures at c.in_ok-l.ensures.said, c.if-l-eq0.true, rw c.number-2.ensures at c.in_ok-e.ensures, there) (c.offer_two.ensures.said at)
+    let label = rw c.number.ensures at c.in_ok-l.ensures.said in
+    let best = rw c.number-2.ensures at c.in_ok-e.ensures in
+    rw (c.in_ok-t.ensures.said, label, c.if-l-eq0.true, best, there) (c.offer_two.ensures.said at)
