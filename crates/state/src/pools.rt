@@ -200,10 +200,8 @@ pub fn copy<T: Copy>(from: &[T], to: &mut [T])
     requires { length from.now ≡ length to.old }
     ensures { to.new ≡ from.now }
 {
-    let mut i = 0;
-    while i < from.len() {
-        to[i] = from[i];
-        i += 1;
+    for (i, x) in to.iter_mut().enumerate() {
+        *x = from[i];
     }
 }
 
