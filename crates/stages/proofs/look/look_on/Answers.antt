@@ -2,7 +2,7 @@ use Rattle.std.proofs.Common.{rules, ap, sym, ◌∙◌, ◌≡◌, ◌∷◌, �
 use Rattle.laws.specs.Run.{ok, at}
 use Rattle.matching.specs.Graph.{is_group}
 use Rattle.steps.specs.State.{State, Progress, searching}
-use Rattle.steps.specs.Steps.{visit, visit_all}
+use Rattle.steps.specs.Steps.{visit}
 use Rattle.steps.specs.Stores.{put_best}
 use Rattle.state.specs.Parts.{state_of}
 use Rattle.stages.specs.Look.{Turns}

@@ -11,4 +11,5 @@ returns-then-k-self-clause-said c =
 pub returns-clause-said : goal.returns-clause-said
 returns-clause-said c =
     let i = c.self.invariant in let k = c.number-k.result in let w = get_or c.self.inside.weights.now k (pos 0) in
-    rw (← c.number-k.ensures, c.of.ensures, c.of-2.ensures, to_z-of_z w64 w (fits_near w (omega (arith, i.near.near k)))) (lent_edge _ _ _ _ c.self.view_is i.pairs k c.if-k-self.false)
+    let plain = to_z-of_z w64 w (fits_near w (omega (arith, i.near.near k))) in
+    rw (← c.number-k.ensures, c.of.ensures, c.of-2.ensures, plain) (lent_edge _ _ _ _ c.self.view_is i.pairs k c.if-k-self.false)
