@@ -58,7 +58,7 @@ impl<'a> Edges<'a> {
         self.weight[e.number() as usize]
     }
 
-    // The node that end p is at.
+    // The node that end p is at. The public one (nodes.rt) takes two lists and says nothing of a graph.
     #[tactic(auto, unfolding(matching::specs::Graph::node_at))]
     fn node_at(&self, p: End) -> Node
         requires { p < 2 * length self.now.first.now }

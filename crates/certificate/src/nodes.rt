@@ -19,7 +19,7 @@ const MAX_DUAL: i64 = 4503599627370496;
 
 // ---- 11 MATE
 
-// The node that end p is at.
+// The node that end p is at. Over two lists as they are lent: `Edges` has the same of its own.
 pub fn node_at(first: &[u16], second: &[u16], p: End) -> Node
     requires { (length second.now ≡ length first.now) × (p < 2 * length first.now) }
     ensures { result ≡ end_node first.now second.now p }

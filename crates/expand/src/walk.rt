@@ -52,7 +52,8 @@ fn hop_from(forward: bool, ends: &[u16], j: u16) -> Result<Hop, Fault>
     })
 }
 
-// The same at the place that a first hop came to.
+// The same at the place that a first hop came to. By a match: the hop is lent, since what holds a number is not copied, and `as_ref` with
+// `map_err` and `?` would be no plainer.
 fn hop_on(forward: bool, ends: &[u16], first: &Result<Hop, Fault>) -> Result<Hop, Fault>
     requires { length ends.now ≤ 65535 }
     ensures { LinksOn forward ends.now first.now result }

@@ -60,7 +60,7 @@ impl<'a> Links<'a> {
         self.len = 0;
     }
 
-    // The edges of the links, in order.
+    // The edges of the links, in order. Lent by themselves, as a path's kids and ends are: the candidates of a group take them so.
     pub fn edges(&self) -> &[u16]
         ensures said { result.now ≡ map (λ (x : Link). x.edge) self.now.links }
         ensures few { length result.now ≤ self.now.nodes }

@@ -35,6 +35,7 @@ impl<'a> Path<'a> {
         Path { kids, ends, len: 0 }
     }
 
+    // A method of its own, as `Stack` and `Links` have: a trait for one line would be no shorter.
     pub fn clear(&mut self)
         ensures { self.new ≡ pathed [] [] self.old.room }
     {

@@ -14,6 +14,7 @@ use search::search::Search;
 use state::pools::copy;
 use std::marker::Model;
 
+// Apart from the request, which is lent for reading while this is written.
 #[derive(Drop)]
 pub(crate) struct Found<'a> {
     n: u16,

@@ -29,7 +29,8 @@ pub struct Delta {
     pub by: By,
 }
 
-// Whether d is below the least amount so far.
+// Whether d is below the least amount so far. By a match: the amount is lent, since what holds a number is not copied, and `as_ref` before
+// `is_none_or` would be no plainer.
 #[tactic(auto, using(crate::proofs::Amounts::belows))]
 fn less_than(d: i64, best: &Option<Delta>) -> bool
     ensures { result ≡ less_than_of d (least_of best.now) }

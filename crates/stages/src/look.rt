@@ -29,6 +29,9 @@ enum Seen {
     Rest,
 }
 
+// What the looks are given stands in the clause of each (`Of`, `Keen`): the node's group, and the slack of its best edge. A struct of them would
+// hold the lists, which change between two looks.
+
 // The slack of the best edge at i, where there is one.
 #[tactic(auto, unfolding(crate::specs::Look::best_slack))]
 fn keenness(g: &Graph, lists: &Lists, i: u16) -> Option<i64>

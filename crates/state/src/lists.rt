@@ -21,7 +21,8 @@ use numbers::faults::{Fault, present};
 use numbers::{Edge, End, Group, Node};
 use std::marker::Model;
 
-// The graph is not among them: it is lent for reading while the lists change, so that the two are of one size is a clause.
+// The graph is not among them: it is lent for reading while the lists change, so that the two are of one size is a clause. What a routine
+// leaves as it was is a clause too (`others`), on a fault as well: no type says of one `&mut Lists` which of its lists may change.
 #[derive(Drop)]
 pub struct Lists<'a> {
     pub(crate) forest: Forest<'a>,

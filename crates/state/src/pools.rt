@@ -84,6 +84,7 @@ impl<'a> Stack<'a> {
         Stack { items, len }
     }
 
+    // A method of its own, as grouping's paths and links have: a trait for one line would be no shorter.
     pub fn clear(&mut self)
         ensures { (self.new.entries ≡ []) × (self.new.room ≡ self.old.room) }
     {

@@ -17,8 +17,8 @@ loop-e-preserved c =
       few = omega (arith, bit_few c.is_matched.result);
       room = simp length-set c.loop-e.invariant.room;
       entries = rw r (
-        list_next _ _ c.loop-e.k c.loop-e.e c.is_matched.result (omega arith) (rw c.of.ensures at c.is_matched.ensures) c.loop-e.invariant.entries
-      );
+          list_next _ _ c.loop-e.k c.loop-e.e c.is_matched.result (omega arith) (rw c.of.ensures at c.is_matched.ensures) c.loop-e.invariant.entries
+          );
     }
 
 pub returns : goal.returns
