@@ -94,6 +94,7 @@ pub fn best_edges(g: &Graph, lists: &mut Lists, room: &mut Room, new: Group) -> 
     ensures size { sized lists.new ≡ sized lists.old }
     ensures fits { RoomFits g.now.nodes room.new }
     ensures others { InLabels lists.old lists.new × ButGathered lists.old.labels lists.new.labels }
+    ensures ring { room.new.ring ≡ room.old.ring }
 {
     room.links.clear();
     gather_all(

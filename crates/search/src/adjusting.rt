@@ -20,7 +20,7 @@ use stages::shift::move_duals;
 use state::lists::Lists;
 
 // The duals move by an amount, and what its type says follows. The answer is whether the search ends. The two by themselves, and no Delta:
-// today's rattle builds no proof where a struct holds an enum that holds an edge, and the enum is matched within it.
+// the toolchain builds no proof where a struct holds an enum that holds an edge, and the enum is matched within it.
 #[tactic(auto, unfolding(steps::specs::Adjust::follow))]
 fn follow(
     g: &Graph,

@@ -243,7 +243,7 @@ pub fn choose(g: &Graph, lists: &Lists, flag: bool) -> Result<Delta, Fault>
     let two = delta_two(g, lists, one)?;
     let three = delta_three(g, lists, two)?;
     let four = delta_four(g, lists, three)?;
-    // Its fields by name: today's rattle builds no proof of a function that hands on a Delta where no `By` is in sight.
+    // Its fields by name: the toolchain builds no proof of a function that hands on a Delta where no `By` is in sight.
     let Delta { amount, by } = delta_last(g, lists, four)?;
     Ok(Delta { amount, by })
 }
