@@ -1,5 +1,5 @@
 // Visiting the neighbours of a taken node. The answers say whether the matching was augmented.
-ghost use Rattle.std.specs.Prelude.{if◌then◌else◌, ◌≡◌, false, pos, eqb};
+ghost use Rattle.std.specs.Prelude.{if◌then◌else◌, ◌≡◌, ◌/◌, false, pos, eqb};
 ghost use Rattle.laws.specs.Run.{ok};
 ghost use Rattle.matching.specs.Graph.{is_group};
 ghost use Rattle.steps.specs.Ends.{slack_of};
@@ -95,7 +95,7 @@ fn pass_edge(
     ensures size { sized lists.new ≡ sized lists.old }
     ensures room { scratch.new ≡ scratch.old }
     ensures free { lists.new.forest.free_places ≡ lists.old.forest.free_places }
-    ensures others { joins lists.old w ≡ false → Relabelled lists.old lists.new }
+    ensures others { joins g.now lists.old w (p / 2) ≡ false → Relabelled lists.old lists.new }
 {
     let e = p.edge();
     let allowed = lists.is_allowed(e)?;
@@ -133,7 +133,7 @@ fn visit(
     ensures size { sized lists.new ≡ sized lists.old }
     ensures room { scratch.new ≡ scratch.old }
     ensures free { lists.new.forest.free_places ≡ lists.old.forest.free_places }
-    ensures others { joins_at g.now lists.old p ≡ false → Relabelled lists.old lists.new }
+    ensures others { joins_at g.now lists.old v p ≡ false → Relabelled lists.old lists.new }
 {
     let w = g.endpoint(p)?;
     let from = lists.top(v)?;
