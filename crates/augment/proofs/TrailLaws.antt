@@ -19,19 +19,19 @@ ended v p s = refl
 
 -- pass i of n, from the place k
 module _ (G : Graph) (n i : ℕ) (k : Place) (s s' : State) (next : Option Place)
-    (m : Moves k (trail_move is_group G (on_trail k.v.0 k.p.0 false s)) (Ok next) s') (l : i < n) where
+    (m : Moves k (trail_move is_group G (on_trail k.v k.p false s)) (Ok next) s') (l : i < n) where
   pub trail_over : next ≡ None
-      → while trail_goes (trail_move is_group G) (n - i) (on_trail k.v.0 k.p.0 false s) ≡ ok (on_trail k.v.0 k.p.0 true s')
+      → while trail_goes (trail_move is_group G) (n - i) (on_trail k.v k.p false s) ≡ ok (on_trail k.v k.p true s')
   trail_over h =
       let e = rw h at m in
-      while_pass trail_goes (trail_move is_group G) (n - i) _ (on_trail k.v.0 k.p.0 true s') (omega arith) (trail_on k.v.0 k.p.0 s) e
-      ∙ while_stop trail_goes (trail_move is_group G) (n - i - 1) (on_trail k.v.0 k.p.0 true s') (ended k.v.0 k.p.0 s')
+      while_pass trail_goes (trail_move is_group G) (n - i) _ (on_trail k.v k.p true s') (omega arith) (trail_on k.v k.p s) e
+      ∙ while_stop trail_goes (trail_move is_group G) (n - i - 1) (on_trail k.v k.p true s') (ended k.v k.p s')
 
   pub trail_goes_on : (to : Place) → next ≡ Some to
-      → while trail_goes (trail_move is_group G) (n - (i + 1)) (on_trail to.v.0 to.p.0 false s')
-      ≡ while trail_goes (trail_move is_group G) (n - i) (on_trail k.v.0 k.p.0 false s)
+      → while trail_goes (trail_move is_group G) (n - (i + 1)) (on_trail to.v to.p false s')
+      ≡ while trail_goes (trail_move is_group G) (n - i) (on_trail k.v k.p false s)
   trail_goes_on to h =
       let e = rw h at m in
-      while_next trail_goes (trail_move is_group G) n i _ (on_trail to.v.0 to.p.0 false s') l (trail_on k.v.0 k.p.0 s) e
+      while_next trail_goes (trail_move is_group G) n i _ (on_trail to.v to.p false s') l (trail_on k.v k.p s) e
 
 pub ruleset trails = (trail_on, while_spent, while_broken)

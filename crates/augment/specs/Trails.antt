@@ -12,16 +12,16 @@ on_trail v p over s = record { v = v; p = p; over = over; state = s }
 
 -- the run x answers the end through which a group was reached, with the state s then
 abbrev pub Reaches : Run Reached → Result End Fault → State → Type 0
-Reaches x (Ok e) s = x ≡ ok (record { from = e.0; state = s })
+Reaches x (Ok e) s = x ≡ ok (record { from = e; state = s })
 Reaches x (Err e) s = x ≡ fault
 
 -- the run x answers the next node and end, with the state s then
 abbrev pub Leads : Run Trail → Result Place Fault → State → Type 0
-Leads x (Ok k) s = x ≡ ok (on_trail k.v.0 k.p.0 false s)
+Leads x (Ok k) s = x ≡ ok (on_trail k.v k.p false s)
 Leads x (Err e) s = x ≡ fault
 
 -- from the place k the run x answers the next node and end, or none where the root of k's node has been reached, with the state s then
 abbrev pub Moves : (k : Place) → Run Trail → Result (Option Place) Fault → State → Type 0
-Moves k x (Ok (Some next)) s = x ≡ ok (on_trail next.v.0 next.p.0 false s)
-Moves k x (Ok None) s = x ≡ ok (on_trail k.v.0 k.p.0 true s)
+Moves k x (Ok (Some next)) s = x ≡ ok (on_trail next.v next.p false s)
+Moves k x (Ok None) s = x ≡ ok (on_trail k.v k.p true s)
 Moves k x (Err e) s = x ≡ fault

@@ -6,6 +6,7 @@ ghost use Rattle.steps.specs.Augment.{through_label1, through_label2, trail_move
 ghost use Rattle.numbers.specs.Answers.{Agrees};
 ghost use Rattle.state.specs.Parts.{state_of, sized};
 ghost use Rattle.augment.specs.Trails.{Reaches, Leads, Moves, on_trail};
+ghost use Rattle.state.specs.Keeps.{Turned};
 
 use crate::turn::augment_top;
 use edges::graph::Graph;
@@ -23,11 +24,12 @@ pub(crate) struct Place {
 // The label-1 group of v is turned and v matched by end p; the answer is the end through which the group was reached.
 #[tactic(auto, unfolding(steps::specs::Augment::through_label1))]
 fn through_one(g: &Graph, lists: &mut Lists, v: Node, p: End) -> Result<End, Fault>
-    ensures said { (at : Progress) → Reaches (through_label1 is_group g.now v.0 p.0 (state_of lists.old at)) result (state_of lists.new at) }
+    ensures said { (at : Progress) → Reaches (through_label1 is_group g.now v p (state_of lists.old at)) result (state_of lists.new at) }
     ensures size { sized lists.new ≡ sized lists.old }
+    ensures others { Turned lists.old lists.new }
 {
     let b = lists.top(v)?;
-    let l = lists.label(b.0)?;
+    let l = lists.label(b.number())?;
     must(l == 1)?;
     let e = lists.label_end(b)?;
     let m = lists.base_mate(b)?;
@@ -40,15 +42,16 @@ fn through_one(g: &Graph, lists: &mut Lists, v: Node, p: End) -> Result<End, Fau
 // The label-2 group at end e is turned, and the next node to match is found.
 #[tactic(auto, unfolding(steps::specs::Augment::through_label2))]
 fn through_two(g: &Graph, lists: &mut Lists, e: End) -> Result<Place, Fault>
-    ensures said { (at : Progress) → Leads (through_label2 is_group g.now e.0 (state_of lists.old at)) result (state_of lists.new at) }
+    ensures said { (at : Progress) → Leads (through_label2 is_group g.now e (state_of lists.old at)) result (state_of lists.new at) }
     ensures size { sized lists.new ≡ sized lists.old }
+    ensures others { Turned lists.old lists.new }
 {
     let t = g.endpoint(e)?;
     let b = lists.top(t)?;
-    let l = lists.label(b.0)?;
+    let l = lists.label(b.number())?;
     must(l == 2)?;
     let f = lists.label_end(b)?;
-    present(f.0)?;
+    present(f.number())?;
     let v = g.endpoint(f)?;
     let j = g.endpoint(f.beside())?;
     let base = lists.base(b)?;
@@ -61,8 +64,9 @@ fn through_two(g: &Graph, lists: &mut Lists, e: End) -> Result<Place, Fault>
 // A node is matched, and the next is found, if its root has not been reached.
 #[tactic(auto, unfolding(steps::specs::Augment::trail_move))]
 fn trail_move(g: &Graph, lists: &mut Lists, here: Place) -> Result<Option<Place>, Fault>
-    ensures said { (at : Progress) → Moves here (trail_move_of is_group g.now (on_trail here.v.0 here.p.0 false (state_of lists.old at))) result (state_of lists.new at) }
+    ensures said { (at : Progress) → Moves here (trail_move_of is_group g.now (on_trail here.v here.p false (state_of lists.old at))) result (state_of lists.new at) }
     ensures size { sized lists.new ≡ sized lists.old }
+    ensures others { Turned lists.old lists.new }
 {
     let e = through_one(g, lists, here.v, here.p)?;
     if e.is_missing() {
@@ -75,8 +79,9 @@ fn trail_move(g: &Graph, lists: &mut Lists, here: Place) -> Result<Option<Place>
 // Node v is matched by end p, and so on back to the root: at most 2n moves.
 #[tactic(auto, using(crate::proofs::TrailLaws::trails), unfolding(steps::specs::Augment::match_trail))]
 pub(crate) fn match_trail(g: &Graph, lists: &mut Lists, v: Node, p: End) -> Result<(), Fault>
-    ensures said { (at : Progress) → Agrees (match_trail_of is_group g.now v.0 p.0 (state_of lists.old at)) result (state_of lists.new at) }
+    ensures said { (at : Progress) → Agrees (match_trail_of is_group g.now v p (state_of lists.old at)) result (state_of lists.new at) }
     ensures size { sized lists.new ≡ sized lists.old }
+    ensures others { Turned lists.old lists.new }
 {
     let mut here = Place { v, p };
     for _ in 0..g.numbers() {

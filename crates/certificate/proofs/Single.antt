@@ -23,9 +23,9 @@ pub cause_at : (number place : ℕ) → Cause
 cause_at k p =
     if eqb k 1 then causes.Nodes
     else if eqb k 2 then causes.Edges
-    else if eqb k 3 then causes.End (record { 0 = p })
-    else if eqb k 4 then causes.Loop (record { 0 = p })
-    else if eqb k 5 then causes.Weight (record { 0 = p })
+    else if eqb k 3 then causes.End p
+    else if eqb k 4 then causes.Loop p
+    else if eqb k 5 then causes.Weight p
     else causes.Buffer
 
 condition_at : (number : ℕ) → Condition

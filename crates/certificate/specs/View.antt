@@ -15,9 +15,9 @@ abbrev pub cause_of : cause.Cause → Refusal
 cause_of causes.Nodes = NODES
 cause_of causes.Edges = EDGES
 cause_of causes.Buffer = BUFFER
-cause_of (causes.End e) = END e.0
-cause_of (causes.Loop e) = LOOP e.0
-cause_of (causes.Weight e) = WEIGHT e.0
+cause_of (causes.End e) = END e
+cause_of (causes.Loop e) = LOOP e
+cause_of (causes.Weight e) = WEIGHT e
 
 abbrev pub intake_of : {A : Type 0} → Result A cause.Cause → Intake
 intake_of (Ok a) = fine

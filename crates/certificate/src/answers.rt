@@ -37,12 +37,13 @@ pub enum Verdict {
 }
 
 // Numbers and places by a match: some cases hold an edge, so no cast gives them.
+// By reference: what holds an edge is not copied where it is passed by value and used again.
 impl Cause {
     // Document 01's number of a refusal.
-    pub fn number(self) -> u16
-        ensures { result ≡ refusal_number (cause_of self) }
+    pub fn number(&self) -> u16
+        ensures { result ≡ refusal_number (cause_of self.now) }
     {
-        match self {
+        match *self {
             Cause::Nodes => 1,
             Cause::Edges => 2,
             Cause::End(_) => 3,
@@ -53,10 +54,10 @@ impl Cause {
     }
 
     // Its place: the edge, or 0.
-    pub fn place(self) -> u16
-        ensures { result ≡ refusal_place (cause_of self) }
+    pub fn place(&self) -> u16
+        ensures { result ≡ refusal_place (cause_of self.now) }
     {
-        match self {
+        match *self {
             Cause::End(e) | Cause::Loop(e) | Cause::Weight(e) => e.number(),
             Cause::Nodes | Cause::Edges | Cause::Buffer => 0,
         }
@@ -74,10 +75,10 @@ impl Condition {
 
 impl Verdict {
     // Document 01's number of a verdict: 0 for YES.
-    pub fn number(self) -> u16
-        ensures { result ≡ number_of self }
+    pub fn number(&self) -> u16
+        ensures { result ≡ number_of self.now }
     {
-        match self {
+        match *self {
             Verdict::Yes => 0,
             Verdict::No(c) => c.number(),
             Verdict::Refused(c) => c.number(),
@@ -85,10 +86,10 @@ impl Verdict {
     }
 
     // And its place.
-    pub fn place(self) -> u16
-        ensures { result ≡ place_of self }
+    pub fn place(&self) -> u16
+        ensures { result ≡ place_of self.now }
     {
-        match self {
+        match *self {
             Verdict::Yes | Verdict::No(_) => 0,
             Verdict::Refused(c) => c.place(),
         }

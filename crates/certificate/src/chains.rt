@@ -21,9 +21,9 @@ pub(crate) struct Chains<'a> {
 fn climb(n: u16, parents: &[u16], v: Node, pool: &mut [u16]) -> u16
     requires few { n ≤ 64 }
     requires climbing { Climbing n parents.now }
-    requires node { v.0 < n }
+    requires node { v < n }
     requires room { n * n ≤ length pool.old }
-    ensures { Climbed n parents.now v.0 pool.old pool.new result }
+    ensures { Climbed n parents.now v pool.old pool.new result }
 {
     let row = v.number() as usize * n as usize;
     // Where the next parent is is what the last one says.
@@ -45,7 +45,7 @@ fn fill(n: u16, parents: &[u16], counts: &mut [u16], pool: &mut [u16])
     ensures { Table n counts.new pool.new parents.now }
 {
     for v in 0..n {
-        let k = climb(n, parents, Node(v), pool);
+        let k = climb(n, parents, Node::of(v), pool);
         counts[v as usize] = k;
     }
 }
@@ -53,7 +53,8 @@ fn fill(n: u16, parents: &[u16], counts: &mut [u16], pool: &mut [u16])
 fn is_in(list: &[u16], x: u16) -> bool
     ensures { result ≡ member x list.now }
 {
-    list.contains(&x)
+    // A chain is short: the slice's `contains`, which compares many entries at a time, takes longer.
+    list.iter().any(|&y| y == x)
 }
 
 fn part(list: &[u16], from: usize, count: usize) -> &[u16]
@@ -89,8 +90,8 @@ impl<'a> Chains<'a> {
 
     #[tactic(auto, using(crate::proofs::RowLaws::rows))]
     fn row(&self, v: Node) -> &[u16]
-        requires node { v.0 < self.now.nodes }
-        ensures { result.now ≡ chain self.now.parents.now self.now.nodes v.0 }
+        requires node { v < self.now.nodes }
+        ensures { result.now ≡ chain self.now.parents.now self.now.nodes v }
     {
         let from = v.number() as usize * self.nodes as usize;
         let count = self.counts[v.number() as usize] as usize;
@@ -100,8 +101,8 @@ impl<'a> Chains<'a> {
     // Group b contains node v.
     #[tactic(auto, using(crate::proofs::ChainLaws::meets_member))]
     pub(crate) fn contains(&self, b: Group, v: Node) -> bool
-        requires node { v.0 < self.now.nodes }
-        ensures { result ≡ meets self.now.parents.now self.now.nodes v.0 b.0 }
+        requires node { v < self.now.nodes }
+        ensures { result ≡ meets self.now.parents.now self.now.nodes v b }
     {
         is_in(self.row(v), b.number())
     }
@@ -109,11 +110,11 @@ impl<'a> Chains<'a> {
     // How many nodes group b contains. A sum of ones, as in the definition: `filter` and `count` would want a law that ties the two.
     #[tactic(auto, using(crate::proofs::Passes::sums), unfolding(matching::specs::Certificate::size, matching::specs::Certificate::contains))]
     pub(crate) fn size_of(&self, b: Group) -> u16
-        ensures { result ≡ size_of (bare self.now.nodes) self.now.parents.now b.0 }
+        ensures { result ≡ size_of (bare self.now.nodes) self.now.parents.now b }
     {
         let mut size: u16 = 0;
         for v in 0..self.nodes {
-            size += u16::from(self.contains(b, Node(v)));
+            size += u16::from(self.contains(b, Node::of(v)));
         }
         size
     }
@@ -122,9 +123,9 @@ impl<'a> Chains<'a> {
     #[tactic(auto, using(crate::proofs::SharedLaws::shared))]
     pub(crate) fn common_duals(&self, duals: &[i64], a: Node, b: Node) -> i64
         requires near { Near self.now.nodes duals.now }
-        requires first { a.0 < self.now.nodes }
-        requires second { b.0 < self.now.nodes }
-        ensures sum { result ≡ common_duals self.now.nodes duals.now self.now.parents.now a.0 b.0 }
+        requires first { a < self.now.nodes }
+        requires second { b < self.now.nodes }
+        ensures sum { result ≡ common_duals self.now.nodes duals.now self.now.parents.now a b }
         ensures near { nat_abs result ≤ 64 * 4503599627370496 }
     {
         let x = self.row(a);

@@ -33,37 +33,37 @@ impl<'a> Edges<'a> {
 
     #[tactic(auto, using(crate::proofs::EdgeReads::reads))]
     pub(crate) fn first_of(&self, e: Edge) -> Node
-        requires { e.0 < length self.now.first.now }
-        ensures node { result.0 ≡ first_of (graph self.now) e.0 }
-        ensures below { result.0 < self.now.nodes }
+        requires { e < length self.now.first.now }
+        ensures node { result ≡ first_of (graph self.now) e }
+        ensures below { result < self.now.nodes }
     {
-        Node(self.first[e.number() as usize])
+        Node::of(self.first[e.number() as usize])
     }
 
     #[tactic(auto, using(crate::proofs::EdgeReads::reads))]
     pub(crate) fn second_of(&self, e: Edge) -> Node
-        requires { e.0 < length self.now.first.now }
-        ensures node { result.0 ≡ second_of (graph self.now) e.0 }
-        ensures below { result.0 < self.now.nodes }
+        requires { e < length self.now.first.now }
+        ensures node { result ≡ second_of (graph self.now) e }
+        ensures below { result < self.now.nodes }
     {
-        Node(self.second[e.number() as usize])
+        Node::of(self.second[e.number() as usize])
     }
 
     #[tactic(auto, using(crate::proofs::EdgeReads::reads))]
     pub(crate) fn weight_of(&self, e: Edge) -> i64
-        requires { e.0 < length self.now.first.now }
-        ensures weight { result ≡ weight_of (graph self.now) e.0 }
+        requires { e < length self.now.first.now }
+        ensures weight { result ≡ weight_of (graph self.now) e }
         ensures near { nat_abs result ≤ 1000000000 }
     {
         self.weight[e.number() as usize]
     }
 
-    // The node that end p is at.
+    // The node that end p is at. The public one (nodes.rt) takes two lists and says nothing of a graph.
     #[tactic(auto, unfolding(matching::specs::Graph::node_at))]
     fn node_at(&self, p: End) -> Node
-        requires { p.0 < 2 * length self.now.first.now }
-        ensures node { result.0 ≡ node_at (graph self.now) p.0 }
-        ensures below { result.0 < self.now.nodes }
+        requires { p < 2 * length self.now.first.now }
+        ensures node { result ≡ node_at (graph self.now) p }
+        ensures below { result < self.now.nodes }
     {
         if p.number() % 2 == 1 {
             self.second_of(p.edge())
@@ -76,8 +76,8 @@ impl<'a> Edges<'a> {
     #[tactic(auto, unfolding(matching::specs::Certificate::matched))]
     pub(crate) fn is_matched(&self, mates: &[u16], e: Edge) -> bool
         requires mates { self.now.nodes ≤ length mates.now }
-        requires edge { e.0 < length self.now.first.now }
-        ensures { result ≡ matched (graph self.now) mates.now e.0 }
+        requires edge { e < length self.now.first.now }
+        ensures { result ≡ matched (graph self.now) mates.now e }
     {
         mate_of(mates, self.first_of(e)) == e.second_end().number()
             && mate_of(mates, self.second_of(e)) == e.first_end().number()
@@ -87,8 +87,8 @@ impl<'a> Edges<'a> {
     #[tactic(auto, unfolding(matching::specs::Tests::mate_test))]
     fn mate_test(&self, mates: &[u16], v: Node) -> bool
         requires mates { self.now.nodes ≤ length mates.now }
-        requires node { v.0 < length mates.now }
-        ensures { result ≡ mate_test (graph self.now) mates.now v.0 }
+        requires node { v < length mates.now }
+        ensures { result ≡ mate_test (graph self.now) mates.now v }
     {
         let p = mate_of(mates, v);
         if p == MISSING {
@@ -97,8 +97,8 @@ impl<'a> Edges<'a> {
         if p >= 2 * self.count() {
             return false;
         }
-        let q = End(p).beside();
-        self.node_at(q) == v && mate_of(mates, self.node_at(End(p))) == q.number()
+        let q = End::of(p).beside();
+        self.node_at(q) == v && mate_of(mates, self.node_at(End::of(p))) == q.number()
     }
 
     // The search has such a test over its own lists; the check call rests on nothing of the search.
@@ -106,14 +106,14 @@ impl<'a> Edges<'a> {
         requires { length mates.now ≡ self.now.nodes }
         ensures { result ≡ all (mate_test (graph self.now) mates.now) (range 0 self.now.nodes) }
     {
-        (0..self.nodes).all(|v| self.mate_test(mates, Node(v)))
+        (0..self.nodes).all(|v| self.mate_test(mates, Node::of(v)))
     }
 }
 
 #[tactic(auto, using(crate::proofs::EdgeReads::mate_read))]
 fn mate_of(mates: &[u16], v: Node) -> u16
-    requires { v.0 < length mates.now }
-    ensures { result ≡ mate_of mates.now v.0 }
+    requires { v < length mates.now }
+    ensures { result ≡ mate_of mates.now v }
 {
     mates[v.number() as usize]
 }

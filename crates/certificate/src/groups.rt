@@ -28,7 +28,7 @@ fn list_pairs(edges: &Edges, mates: &[u16], list: &mut [u16]) -> u16
     let mut k: u16 = 0;
     for e in 0..edges.count() {
         list[k as usize] = e;
-        k += u16::from(edges.is_matched(mates, Edge(e)));
+        k += u16::from(edges.is_matched(mates, Edge::of(e)));
     }
     k
 }
@@ -37,8 +37,8 @@ impl<'a> Full<'a> {
     // Both ends of edge e are in group b.
     #[tactic(auto, unfolding(matching::specs::Certificate::inside, matching::specs::Certificate::contains))]
     fn inside(&self, b: Group, e: Edge) -> bool
-        requires { e.0 < length self.now.trial.now.edges.first.now }
-        ensures { result ≡ inside (graph self.now.trial.now.edges) self.now.trial.now.chains.parents.now b.0 e.0 }
+        requires { e < length self.now.trial.now.edges.first.now }
+        ensures { result ≡ inside (graph self.now.trial.now.edges) self.now.trial.now.chains.parents.now b e }
     {
         let t = self.trial;
         t.chains.contains(b, t.edges.first_of(e)) && t.chains.contains(b, t.edges.second_of(e))
@@ -47,11 +47,11 @@ impl<'a> Full<'a> {
     // How many of the pairs lie within group b.
     #[tactic(auto, using(crate::proofs::GroupLaws::listing), unfolding(matching::specs::Certificate::within))]
     fn pairs_within(&self, b: Group) -> u16
-        ensures { result ≡ within (graph self.now.trial.now.edges) self.now.trial.now.chains.parents.now b.0 self.now.pairs.now }
+        ensures { result ≡ within (graph self.now.trial.now.edges) self.now.trial.now.chains.parents.now b self.now.pairs.now }
     {
         let mut found: u16 = 0;
         for &e in self.pairs {
-            found += u16::from(self.inside(b, Edge(e)));
+            found += u16::from(self.inside(b, Edge::of(e)));
         }
         found
     }
@@ -59,8 +59,8 @@ impl<'a> Full<'a> {
     // Where its dual is above 0, group b holds an odd number of nodes, all but one of them in pairs within it.
     #[tactic(auto, using(crate::proofs::GroupLaws::fullness))]
     fn full_test(&self, b: Group) -> bool
-        requires { b.0 < 2 * self.now.trial.now.edges.nodes }
-        ensures { result ≡ full_test (graph self.now.trial.now.edges) (certificate self.now.trial.now) b.0 }
+        requires { b < 2 * self.now.trial.now.edges.nodes }
+        ensures { result ≡ full_test (graph self.now.trial.now.edges) (certificate self.now.trial.now) b }
     {
         if self.trial.dual_of(b.number()) <= 0 {
             return true;
@@ -73,7 +73,7 @@ impl<'a> Full<'a> {
         ensures { result ≡ all (full_test (graph self.now.trial.now.edges) (certificate self.now.trial.now)) (groups_of (graph self.now.trial.now.edges)) }
     {
         let n = self.trial.edges.nodes;
-        (n..2 * n).all(|b| self.full_test(Group(b)))
+        (n..2 * n).all(|b| self.full_test(Group::of(b)))
     }
 }
 

@@ -17,7 +17,7 @@ const MAX_WEIGHT: u64 = 1000000000;
 // At one edge: END, LOOP, WEIGHT.
 #[tactic(auto, unfolding(steps::specs::Refusals::edge_intake))]
 fn edge_intake(n: usize, e: Edge, a: Node, b: Node, w: i64) -> Result<(), Cause>
-    ensures { intake_of result ≡ edge_intake n e.0 (edge a.0 b.0 w) }
+    ensures { intake_of result ≡ edge_intake n e (edge a b w) }
 {
     let i = a.number() as usize;
     let j = b.number() as usize;
@@ -38,9 +38,9 @@ fn edges_intake(n: usize, first: &[u16], second: &[u16], weight: &[i64]) -> Resu
     for e in 0..first.len() {
         edge_intake(
             n,
-            Edge(e as u16),
-            Node(first[e]),
-            Node(second[e]),
+            Edge::of(e as u16),
+            Node::of(first[e]),
+            Node::of(second[e]),
             weight[e],
         )?;
     }

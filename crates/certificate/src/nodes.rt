@@ -19,16 +19,16 @@ const MAX_DUAL: i64 = 4503599627370496;
 
 // ---- 11 MATE
 
-// The node that end p is at.
+// The node that end p is at. Over two lists as they are lent: `Edges` has the same of its own.
 pub fn node_at(first: &[u16], second: &[u16], p: End) -> Node
-    requires { (length second.now ≡ length first.now) × (p.0 < 2 * length first.now) }
-    ensures { result.0 ≡ end_node first.now second.now p.0 }
+    requires { (length second.now ≡ length first.now) × (p < 2 * length first.now) }
+    ensures { result ≡ end_node first.now second.now p }
 {
     let e = p.edge().number() as usize;
     if p.number() % 2 == 1 {
-        Node(second[e])
+        Node::of(second[e])
     } else {
-        Node(first[e])
+        Node::of(first[e])
     }
 }
 

@@ -13,8 +13,8 @@ impl<'a> Trial<'a> {
     // The slack, plus twice the duals of the groups that contain both ends.
     #[tactic(auto, using(crate::proofs::SlackLaws::slack_sum))]
     fn full_slack(&self, e: Edge) -> i64
-        requires { e.0 < length self.now.edges.first.now }
-        ensures { result ≡ full_slack (graph self.now.edges) (certificate self.now) e.0 }
+        requires { e < length self.now.edges.first.now }
+        ensures { result ≡ full_slack (graph self.now.edges) (certificate self.now) e }
     {
         let a = self.edges.first_of(e);
         let b = self.edges.second_of(e);
@@ -26,9 +26,9 @@ impl<'a> Trial<'a> {
     // EDGE and TIGHT at one edge.
     #[tactic(auto, unfolding(matching::specs::Tests::edge_test, matching::specs::Tests::tight_test))]
     fn edge_tests(&self, e: Edge) -> (bool, bool)
-        requires { e.0 < length self.now.edges.first.now }
-        ensures edge { result.0 ≡ edge_test (graph self.now.edges) (certificate self.now) e.0 }
-        ensures tight { result.1 ≡ tight_test (graph self.now.edges) (certificate self.now) e.0 }
+        requires { e < length self.now.edges.first.now }
+        ensures edge { result.0 ≡ edge_test (graph self.now.edges) (certificate self.now) e }
+        ensures tight { result.1 ≡ tight_test (graph self.now.edges) (certificate self.now) e }
     {
         let slack = self.full_slack(e);
         let matched = self.edges.is_matched(self.mates, e);
@@ -42,7 +42,7 @@ impl<'a> Trial<'a> {
     {
         let mut all_tight = true;
         for e in 0..self.edges.count() {
-            let (edge, tight) = self.edge_tests(Edge(e));
+            let (edge, tight) = self.edge_tests(Edge::of(e));
             must(edge, Condition::Edge)?;
             all_tight &= tight;
         }

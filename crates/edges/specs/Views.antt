@@ -19,15 +19,15 @@ edges_over [] ws = []
 pub record GraphFits (n : ℕ) (ends : List ℕ) (weights : List ℤ) (offsets far : List ℕ) : Type 0 where
   pub nodes : n ≤ 512
   pub pairs : length ends ≡ 2 * length weights
-  pub few : length weights ≤ 16384
+  pub few : length weights ≤ 32767
   pub near : Near 1000000000 weights
   pub starts : length offsets ≡ n + 1
-  pub table : length far ≤ 32768
+  pub table : length far ≤ 65535
   pub neighbours : Neighbours n ends offsets far
 
 -- the run x answers an edge
 abbrev pub AnswersEdgeAt : Run Edge → Result EdgeAt Fault → Type 0
-AnswersEdgeAt x (Ok k) = x ≡ ok (edge k.first.0 k.second.0 k.weight)
+AnswersEdgeAt x (Ok k) = x ≡ ok (edge k.first k.second k.weight)
 AnswersEdgeAt x (Err e) = x ≡ fault
 
 -- there is such an edge, so its number is below a limit

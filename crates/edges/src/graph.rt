@@ -2,7 +2,7 @@
 ghost use Rattle.std.specs.Prelude.{◌≡◌, ◌*◌, ◌+◌, ◌≤◌, ◌<◌, pos, nat_abs, ◌+ℤ◌, ◌-ℤ◌, ◌*ℤ◌, length, IfOk};
 ghost use Rattle.laws.specs.Run.{at};
 ghost use Rattle.matching.specs.Graph.{graph_of, edge_count};
-ghost use Rattle.numbers.specs.Answers.{Answers, AnswersNode};
+ghost use Rattle.numbers.specs.Answers.{Answers};
 ghost use Rattle.numbers.specs.Near.{Near};
 ghost use Rattle.steps.specs.Ends.{endpoint as endpoint_of, slack_of, tighter as tighter_of, far_ends as far_ends_of, top_weight as top_weight_of};
 ghost use Rattle.edges.specs.Views.{edges_over, GraphFits, AnswersEdgeAt, Within};
@@ -85,24 +85,24 @@ impl<'a> Graph<'a> {
 
     // The node at an end.
     pub fn endpoint(&self, p: End) -> Result<Node, Fault>
-        ensures { AnswersNode (endpoint_of self.now p.0) result }
+        ensures { Answers (endpoint_of self.now p) result }
     {
-        let v = read(self.ends, p.0)?;
-        Ok(Node(v))
+        let v = read(self.ends, p.number())?;
+        Ok(Node::of(v))
     }
 
     // Edge e. Its ends fit 16 bits.
     pub fn edge(&self, e: Edge) -> Result<EdgeAt, Fault>
-        ensures said { AnswersEdgeAt (at self.now.edges e.0) result }
-        ensures few { Within e.0 16384 result }
+        ensures said { AnswersEdgeAt (at self.now.edges e) result }
+        ensures few { Within e 32767 result }
     {
-        let k = e.0 as usize;
+        let k = e.number() as usize;
         if k >= self.weights.len() {
             return Err(Fault);
         }
         Ok(EdgeAt {
-            first: Node(self.ends[2 * k]),
-            second: Node(self.ends[2 * k + 1]),
+            first: Node::of(self.ends[2 * k]),
+            second: Node::of(self.ends[2 * k + 1]),
             weight: self.weights[k],
         })
     }
@@ -110,10 +110,10 @@ impl<'a> Graph<'a> {
     // The two duals at edge e less twice its weight.
     pub fn slack(&self, duals: &[i64], e: Edge) -> Result<i64, Fault>
         requires { Near 4503599627370496 duals.now }
-        ensures said { Answers (slack_of self.now duals.now e.0) result }
+        ensures said { Answers (slack_of self.now duals.now e) result }
         ensures near { IfOk result (λ k. nat_abs k ≤ 18014398509481984) }
     {
-        let k = e.0 as usize;
+        let k = e.number() as usize;
         if k >= self.weights.len() {
             return Err(Fault);
         }
@@ -132,7 +132,7 @@ impl<'a> Graph<'a> {
     #[tactic(auto, unfolding(steps::specs::Ends::tighter))]
     pub fn tighter(&self, duals: &[i64], d: Edge, e: Edge) -> Result<bool, Fault>
         requires { Near 4503599627370496 duals.now }
-        ensures { Answers (tighter_of self.now duals.now d.0 e.0) result }
+        ensures { Answers (tighter_of self.now duals.now d e) result }
     {
         let x = self.slack(duals, d)?;
         let y = self.slack(duals, e)?;
@@ -141,12 +141,13 @@ impl<'a> Graph<'a> {
 
     // The ends across from node v, in edge order.
     pub fn far_ends(&self, v: Node) -> &[u16]
-        requires { v.0 < self.now.nodes }
-        ensures said { result.now ≡ far_ends_of self.now v.0 }
-        ensures few { length result.now ≤ 32768 }
+        requires { v < self.now.nodes }
+        ensures said { result.now ≡ far_ends_of self.now v }
+        ensures few { length result.now ≤ 65535 }
     {
-        let from = self.offsets[v.0 as usize] as usize;
-        let to = self.offsets[v.0 as usize + 1] as usize;
+        let k = v.number() as usize;
+        let from = self.offsets[k] as usize;
+        let to = self.offsets[k + 1] as usize;
         &self.far[from..to]
     }
 

@@ -49,13 +49,13 @@ fn place_ends(ends: &[u16], n: u16, offsets: &mut [u16], far: &mut [u16])
         if v < n {
             let k = offsets[v as usize] - 1;
             offsets[v as usize] = k;
-            far[k as usize] = End(p as u16).beside().number();
+            far[k as usize] = End::of(p as u16).beside().number();
         }
     }
 }
 
 // The table of n nodes: offsets has n + 1 entries, far one for each end. An end at node n or more is in no row: so many places at the end
-// of far stay as they were, all of them where n is 0.
+// of far stay as they were, all of them where n is 0. The two lists by themselves: they are a `Graph`'s once the table is made.
 pub fn neighbours(ends: &[u16], n: u16, offsets: &mut [u16], far: &mut [u16])
     requires starts { length offsets.old ≡ n + 1 }
     requires few { length ends.now ≤ 32768 }

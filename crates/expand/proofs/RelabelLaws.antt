@@ -1,6 +1,6 @@
 -- A node that was reached from outside: what is left once its own label is gone.
-use Rattle.std.proofs.Common.{◌≡◌, ℕ, eqb, true, refl}
-use Rattle.laws.specs.Run.{ok, at, must}
+use Rattle.std.proofs.Common.{◌≡◌, ℕ}
+use Rattle.laws.specs.Run.{ok, at}
 use Rattle.matching.specs.Graph.{Graph}
 use Rattle.steps.specs.State.{State}
 use Rattle.steps.specs.Stores.{put_label}

@@ -9,7 +9,7 @@ use Rattle.expand.specs.declared.walk.Hop.{Hop}
 
 -- the ring end at place j and the place after it
 abbrev pub Links : (forward : Bool) → (ends : List ℕ) → (j : ℕ) → Result Hop Fault → Type 0
-Links forward ends j (Ok k) = (link_end forward ends j ≡ ok k.p.0) × (around forward (length ends) j ≡ k.place)
+Links forward ends j (Ok k) = (link_end forward ends j ≡ ok k.p) × (around forward (length ends) j ≡ k.place)
 Links forward ends j (Err e) = link_end forward ends j ≡ fault
 
 -- the same at the place that a first hop came to; nothing is said where there was none
@@ -25,5 +25,5 @@ onward_at place s = record { place = place; state = s }
 
 -- the run x answers a hop, and leaves s
 abbrev pub Relabels : Run Relabel → Result Hop Fault → State → Type 0
-Relabels x (Ok k) s = x ≡ ok (relabel_at k.place k.p.0 s)
+Relabels x (Ok k) s = x ≡ ok (relabel_at k.place k.p s)
 Relabels x (Err e) s = x ≡ fault

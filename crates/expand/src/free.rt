@@ -6,6 +6,7 @@ ghost use Rattle.steps.specs.Expand.{bring_top as bring_top_of, keep_child as ke
 ghost use Rattle.numbers.specs.Answers.{Agrees};
 ghost use Rattle.state.specs.Parts.{state_of, sized, size_of};
 ghost use Rattle.expand.specs.Parts.{free_children as free_children_of, take_apart as take_apart_of};
+ghost use Rattle.state.specs.Keeps.{ButTops, Closed, Expanded, InForest};
 
 use crate::walk::relabel_ring;
 use edges::graph::Graph;
@@ -17,12 +18,13 @@ use state::pools::Stack;
 // These nodes have c as their outermost group.
 #[tactic(auto, unfolding(steps::specs::Expand::bring_top))]
 fn bring_top(lists: &mut Lists, c: Group, nodes: &[u16]) -> Result<(), Fault>
-    ensures said { (at : Progress) → Agrees (for_each (bring_top_of c.0) nodes.now (state_of lists.old at)) result (state_of lists.new at) }
+    ensures said { (at : Progress) → Agrees (for_each (bring_top_of c) nodes.now (state_of lists.old at)) result (state_of lists.new at) }
     ensures size { sized lists.new ≡ sized lists.old }
     ensures kids { lists.new.forest.kids ≡ lists.old.forest.kids }
+    ensures others { InForest lists.old lists.new × ButTops lists.old.forest lists.new.forest }
 {
     for &v in nodes {
-        lists.put_top(Node(v), c)?;
+        lists.put_top(Node::of(v), c)?;
     }
     Ok(())
 }
@@ -31,10 +33,11 @@ fn bring_top(lists: &mut Lists, c: Group, nodes: &[u16]) -> Result<(), Fault>
 #[tactic(auto, unfolding(steps::specs::Expand::keep_child, steps::specs::Leaves::leaves_of, steps::specs::Leaves::leaves_after))]
 fn keep_child(g: &Graph, lists: &mut Lists, nodes: &mut Stack, c: Group) -> Result<(), Fault>
     requires { (sized lists.old ≡ size_of g.now) × (nodes.old.room ≡ 2 * g.now.nodes) }
-    ensures said { (at : Progress) → Agrees (keep_child_of g.now c.0 (state_of lists.old at)) result (state_of lists.new at) }
+    ensures said { (at : Progress) → Agrees (keep_child_of g.now c (state_of lists.old at)) result (state_of lists.new at) }
     ensures size { sized lists.new ≡ sized lists.old }
     ensures kids { lists.new.forest.kids ≡ lists.old.forest.kids }
     ensures room { nodes.new.room ≡ nodes.old.room }
+    ensures others { InForest lists.old lists.new × ButTops lists.old.forest lists.new.forest }
 {
     nodes.clear();
     lists.leaves(g, c, nodes)?;
@@ -45,16 +48,17 @@ fn keep_child(g: &Graph, lists: &mut Lists, nodes: &mut Stack, c: Group) -> Resu
 #[tactic(auto, unfolding(steps::specs::Expand::retire))]
 fn retire(g: &Graph, lists: &mut Lists, b: Group) -> Result<(), Fault>
     requires { sized lists.old ≡ size_of g.now }
-    ensures said { (at : Progress) → Agrees (retire_of g.now b.0 (state_of lists.old at)) result (state_of lists.new at) }
+    ensures said { (at : Progress) → Agrees (retire_of g.now b (state_of lists.old at)) result (state_of lists.new at) }
     ensures size { sized lists.new ≡ sized lists.old }
     ensures kids { lists.new.forest.kids ≡ lists.old.forest.kids }
+    ensures others { Closed lists.old lists.new }
 {
-    lists.put_label(b.0, MISSING)?;
-    lists.put_label_end(b.0, End(MISSING))?;
+    lists.put_label(b.number(), MISSING)?;
+    lists.put_label_end(b.number(), End::of(MISSING))?;
     lists.clear_children(b)?;
     lists.clear_ring_ends(b)?;
     lists.put_base(b, Node::missing())?;
-    lists.put_best(b.0, Edge(MISSING))?;
+    lists.put_best(b.number(), Edge::of(MISSING))?;
     lists.free_number(g, b)
 }
 
@@ -70,13 +74,14 @@ fn free_group(
     c: Group,
 ) -> Result<(), Fault>
     requires { (sized lists.old ≡ size_of g.now) × (nodes.old.room ≡ 2 * g.now.nodes) }
-    ensures said { (at : Progress) → Agrees (free_group_of g.now (expand_group_of g.now depth last) last c.0 (state_of lists.old at)) result (state_of lists.new at) }
+    ensures said { (at : Progress) → Agrees (free_group_of g.now (expand_group_of g.now depth last) last c (state_of lists.old at)) result (state_of lists.new at) }
     ensures size { sized lists.new ≡ sized lists.old }
     ensures kids { lists.new.forest.kids ≡ lists.old.forest.kids }
     ensures room { nodes.new.room ≡ nodes.old.room }
+    ensures others { Expanded last lists.old lists.new }
 {
     if last {
-        let d = lists.dual(c.0)?;
+        let d = lists.dual(c.number())?;
         if d == 0 {
             return expand_group(g, lists, nodes, depth, last, c);
         }
@@ -96,14 +101,15 @@ fn free_child(
     c: Group,
 ) -> Result<(), Fault>
     requires { (sized lists.old ≡ size_of g.now) × (nodes.old.room ≡ 2 * g.now.nodes) }
-    ensures said { (at : Progress) → Agrees (free_child_of g.now (expand_group_of g.now depth last) last c.0 (state_of lists.old at)) result (state_of lists.new at) }
+    ensures said { (at : Progress) → Agrees (free_child_of g.now (expand_group_of g.now depth last) last c (state_of lists.old at)) result (state_of lists.new at) }
     ensures size { sized lists.new ≡ sized lists.old }
     ensures kids { lists.new.forest.kids ≡ lists.old.forest.kids }
     ensures room { nodes.new.room ≡ nodes.old.room }
+    ensures others { Expanded last lists.old lists.new }
 {
-    lists.put_parent(c, Group(MISSING))?;
-    if c.0 < g.nodes() {
-        return lists.put_top(Node(c.0), c);
+    lists.put_parent(c, Group::of(MISSING))?;
+    if c.number() < g.nodes() {
+        return lists.put_top(Node::of(c.number()), c);
     }
     free_group(g, lists, nodes, depth, last, c)
 }
@@ -120,10 +126,11 @@ fn free_children(
     b: Group,
 ) -> Result<(), Fault>
     requires { (sized lists.old ≡ size_of g.now) × (nodes.old.room ≡ 2 * g.now.nodes) }
-    ensures said { (at : Progress) → Agrees (free_children_of g.now (expand_group_of g.now depth last) last b.0 (state_of lists.old at)) result (state_of lists.new at) }
+    ensures said { (at : Progress) → Agrees (free_children_of g.now (expand_group_of g.now depth last) last b (state_of lists.old at)) result (state_of lists.new at) }
     ensures size { sized lists.new ≡ sized lists.old }
     ensures kids { lists.new.forest.kids ≡ lists.old.forest.kids }
     ensures room { nodes.new.room ≡ nodes.old.room }
+    ensures others { Expanded last lists.old lists.new }
 {
     let m = lists.child_count(b)?;
     for k in 0..m {
@@ -145,13 +152,14 @@ fn take_apart(
     b: Group,
 ) -> Result<(), Fault>
     requires { (sized lists.old ≡ size_of g.now) × (nodes.old.room ≡ 2 * g.now.nodes) }
-    ensures said { (at : Progress) → Agrees (take_apart_of g.now (expand_group_of g.now depth last) last b.0 (state_of lists.old at)) result (state_of lists.new at) }
+    ensures said { (at : Progress) → Agrees (take_apart_of g.now (expand_group_of g.now depth last) last b (state_of lists.old at)) result (state_of lists.new at) }
     ensures size { sized lists.new ≡ sized lists.old }
     ensures kids { lists.new.forest.kids ≡ lists.old.forest.kids }
     ensures room { nodes.new.room ≡ nodes.old.room }
+    ensures others { Expanded last lists.old lists.new }
 {
     free_children(g, lists, nodes, depth, last, b)?;
-    let l = lists.label(b.0)?;
+    let l = lists.label(b.number())?;
     if !last && l == 2 {
         relabel_ring(g, lists, nodes, b)?;
     }
@@ -170,10 +178,11 @@ fn expand_group(
     b: Group,
 ) -> Result<(), Fault>
     requires { (sized lists.old ≡ size_of g.now) × (nodes.old.room ≡ 2 * g.now.nodes) }
-    ensures said { (at : Progress) → Agrees (expand_group_of g.now depth last b.0 (state_of lists.old at)) result (state_of lists.new at) }
+    ensures said { (at : Progress) → Agrees (expand_group_of g.now depth last b (state_of lists.old at)) result (state_of lists.new at) }
     ensures size { sized lists.new ≡ sized lists.old }
     ensures kids { lists.new.forest.kids ≡ lists.old.forest.kids }
     ensures room { nodes.new.room ≡ nodes.old.room }
+    ensures others { Expanded last lists.old lists.new }
 {
     if depth == 0 {
         return Err(Fault);
@@ -191,9 +200,10 @@ pub fn expand(
     b: Group,
 ) -> Result<(), Fault>
     requires { (sized lists.old ≡ size_of g.now) × (nodes.old.room ≡ 2 * g.now.nodes) }
-    ensures said { (at : Progress) → Agrees (expand_top g.now last b.0 (state_of lists.old at)) result (state_of lists.new at) }
+    ensures said { (at : Progress) → Agrees (expand_top g.now last b (state_of lists.old at)) result (state_of lists.new at) }
     ensures size { sized lists.new ≡ sized lists.old }
     ensures room { nodes.new.room ≡ nodes.old.room }
+    ensures others { Expanded last lists.old lists.new }
 {
     expand_group(g, lists, nodes, g.nodes(), last, b)
 }

@@ -6,6 +6,7 @@ ghost use Rattle.numbers.specs.Answers.{Agrees};
 ghost use Rattle.state.specs.Parts.{state_of, sized, size_of};
 ghost use Rattle.expand.specs.Parts.{to_base, to_entry};
 ghost use Rattle.expand.specs.Told.{Links, LinksOn, Relabels, relabel_at};
+ghost use Rattle.state.specs.Keeps.{Relabelled};
 
 use crate::relabel::{onward_child, relabel_base, unlabel};
 use edges::graph::Graph;
@@ -37,41 +38,45 @@ fn hop_from(forward: bool, ends: &[u16], j: u16) -> Result<Hop, Fault>
     ensures { Links forward ends.now j result }
 {
     if forward {
-        let p = End(read(ends, j)?);
+        let p = End::of(read(ends, j)?);
         let place = around(true, ends.len() as u16, j);
         return Ok(Hop { place, p });
     }
     if j == 0 {
         return Err(Fault);
     }
-    let p = End(read(ends, j - 1)?);
+    let p = End::of(read(ends, j - 1)?);
     Ok(Hop {
         place: j - 1,
         p: p.beside(),
     })
 }
 
-// The same at the place that a first hop came to.
-fn hop_on(forward: bool, ends: &[u16], first: Result<Hop, Fault>) -> Result<Hop, Fault>
+// The same at the place that a first hop came to. By a match: the hop is lent, since what holds a number is not copied, and `as_ref` with
+// `map_err` and `?` would be no plainer.
+fn hop_on(forward: bool, ends: &[u16], first: &Result<Hop, Fault>) -> Result<Hop, Fault>
     requires { length ends.now ≤ 65535 }
-    ensures { LinksOn forward ends.now first result }
+    ensures { LinksOn forward ends.now first.now result }
 {
-    let k = first?;
-    hop_from(forward, ends, k.place)
+    match first {
+        Ok(k) => hop_from(forward, ends, k.place),
+        Err(_) => Err(Fault),
+    }
 }
 
 // Two places on: the child that hop k leads to gets label 2 and, through its mate, the next child label 1. Both ring edges are allowed.
 #[tactic(auto, unfolding(steps::specs::Expand::relabel_move))]
-fn relabel_move(g: &Graph, lists: &mut Lists, ring: Round, k: Hop) -> Result<Hop, Fault>
+fn relabel_move(g: &Graph, lists: &mut Lists, ring: &Round, k: &Hop) -> Result<Hop, Fault>
     requires { sized lists.old ≡ size_of g.now }
-    ensures said { (at : Progress) → Relabels (relabel_move_of g.now ring.b.0 ring.forward (relabel_at k.place k.p.0 (state_of lists.old at))) result (state_of lists.new at) }
+    ensures said { (at : Progress) → Relabels (relabel_move_of g.now ring.now.b ring.now.forward (relabel_at k.now.place k.now.p (state_of lists.old at))) result (state_of lists.new at) }
     ensures size { sized lists.new ≡ sized lists.old }
     ensures kids { lists.new.forest.kids ≡ lists.old.forest.kids }
+    ensures others { Relabelled lists.old lists.new }
 {
     let ends = lists.ring_ends(ring.b)?;
     // Both ends are read before the labels change; that there is none is a fault only where the walk comes to it.
     let first = hop_from(ring.forward, ends, k.place);
-    let second = hop_on(ring.forward, ends, first);
+    let second = hop_on(ring.forward, ends, &first);
     unlabel(g, lists, k.p)?;
     let q = first?;
     unlabel(g, lists, q.p)?;
@@ -85,18 +90,19 @@ fn relabel_move(g: &Graph, lists: &mut Lists, ring: Round, k: Hop) -> Result<Hop
 
 // From the child that was entered to the base child, two places at a time: at most 2n times.
 #[tactic(auto, using(crate::proofs::WalkLaws::relabels))]
-fn relabel_walk(g: &Graph, lists: &mut Lists, ring: Round, from: Hop) -> Result<Hop, Fault>
+fn relabel_walk(g: &Graph, lists: &mut Lists, ring: &Round, from: Hop) -> Result<Hop, Fault>
     requires { sized lists.old ≡ size_of g.now }
-    ensures said { (at : Progress) → Relabels (to_base g.now ring.b.0 ring.forward from.place from.p.0 (state_of lists.old at)) result (state_of lists.new at) }
+    ensures said { (at : Progress) → Relabels (to_base g.now ring.now.b ring.now.forward from.place from.p (state_of lists.old at)) result (state_of lists.new at) }
     ensures size { sized lists.new ≡ sized lists.old }
     ensures kids { lists.new.forest.kids ≡ lists.old.forest.kids }
+    ensures others { Relabelled lists.old lists.new }
 {
     let mut k = from;
     for _ in 0..g.numbers() {
         if k.place == 0 {
             return Ok(k);
         }
-        k = relabel_move(g, lists, ring, k)?;
+        k = relabel_move(g, lists, ring, &k)?;
     }
     must(k.place == 0)?;
     Ok(k)
@@ -108,20 +114,21 @@ fn onward(
     g: &Graph,
     lists: &mut Lists,
     nodes: &mut Stack,
-    ring: Round,
+    ring: &Round,
     entry: Group,
     from: u16,
 ) -> Result<(), Fault>
     requires { (sized lists.old ≡ size_of g.now) × (nodes.old.room ≡ 2 * g.now.nodes) }
-    ensures said { (at : Progress) → Agrees (to_entry g.now ring.b.0 ring.forward entry.0 from (state_of lists.old at)) result (state_of lists.new at) }
+    ensures said { (at : Progress) → Agrees (to_entry g.now ring.now.b ring.now.forward entry from (state_of lists.old at)) result (state_of lists.new at) }
     ensures size { sized lists.new ≡ sized lists.old }
     ensures kids { lists.new.forest.kids ≡ lists.old.forest.kids }
     ensures room { nodes.new.room ≡ nodes.old.room }
+    ensures others { Relabelled lists.old lists.new }
 {
     let mut place = from;
     for _ in 0..g.numbers() {
         let kids = lists.children(ring.b)?;
-        let c = Group(read(kids, place)?);
+        let c = Group::of(read(kids, place)?);
         if c == entry {
             return Ok(());
         }
@@ -129,7 +136,7 @@ fn onward(
         onward_child(g, lists, nodes, c)?;
     }
     let c = read(lists.children(ring.b)?, place)?;
-    must(Group(c) == entry)
+    must(Group::of(c) == entry)
 }
 
 // The children of group b get their labels: forward round the ring from an odd place, backward from an even one.
@@ -141,13 +148,14 @@ pub(crate) fn relabel_ring(
     b: Group,
 ) -> Result<(), Fault>
     requires { (sized lists.old ≡ size_of g.now) × (nodes.old.room ≡ 2 * g.now.nodes) }
-    ensures said { (at : Progress) → Agrees (relabel_ring_of g.now b.0 (state_of lists.old at)) result (state_of lists.new at) }
+    ensures said { (at : Progress) → Agrees (relabel_ring_of g.now b (state_of lists.old at)) result (state_of lists.new at) }
     ensures size { sized lists.new ≡ sized lists.old }
     ensures kids { lists.new.forest.kids ≡ lists.old.forest.kids }
     ensures room { nodes.new.room ≡ nodes.old.room }
+    ensures others { Relabelled lists.old lists.new }
 {
     let e = lists.label_end(b)?;
-    present(e.0)?;
+    present(e.number())?;
     let v = g.endpoint(e.beside())?;
     let entry = lists.top(v)?;
     let kids = lists.children(b)?;
@@ -158,7 +166,7 @@ pub(crate) fn relabel_ring(
     };
     let base = read(kids, 0);
     let start = around(ring.forward, kids.len() as u16, 0);
-    let k = relabel_walk(g, lists, ring, Hop { place: i, p: e })?;
-    relabel_base(g, lists, Group(base?), k.p)?;
-    onward(g, lists, nodes, ring, entry, start)
+    let k = relabel_walk(g, lists, &ring, Hop { place: i, p: e })?;
+    relabel_base(g, lists, Group::of(base?), k.p)?;
+    onward(g, lists, nodes, &ring, entry, start)
 }

@@ -1,7 +1,7 @@
 -- Whether a list has an entry twice: its first entry is in the rest, or the rest has one twice.
-use Rattle.std.proofs.Common.{◌≡◌, ℕ, Bool, true, false, eqb, List, [], ◌∷◌, length, refl, arith}
+use Rattle.std.proofs.Common.{◌≡◌, ℕ, true, false, eqb, List, [], ◌∷◌, length, refl, arith}
 use Rattle.std.specs.List.{list_any}
-use Rattle.laws.specs.Lists.{member, repeats}
+use Rattle.laws.specs.Lists.{repeats}
 use Rattle.numbers.proofs.Members.{any_member}
 
 module _ (x : ℕ) (xs : List ℕ) where

@@ -17,7 +17,7 @@ standing here kids ends = record { here = here; kids = kids; ends = ends }
 
 -- the walk x goes one group further
 abbrev pub Steps : Run Trace → (here : ℕ) → (kids ends : List ℕ) → Result Back Fault → Type 0
-Steps x here kids ends (Ok k) = x ≡ ok (standing k.to.0 (kids ++ (here ∷ [])) (ends ++ (k.end.0 ∷ [])))
+Steps x here kids ends (Ok k) = x ≡ ok (standing k.to (kids ++ (here ∷ [])) (ends ++ (k.end ∷ [])))
 Steps x here kids ends (Err e) = x ≡ fault
 
 -- the outermost groups of the base and of an edge's two nodes
@@ -38,7 +38,7 @@ meeting_of G base e s = do
   ok (met first v w)
 
 abbrev pub Meets : Run Met → Result Meeting Fault → Type 0
-Meets x (Ok m) = x ≡ ok (met m.first.0 m.v.0 m.w.0)
+Meets x (Ok m) = x ≡ ok (met m.first m.v m.w)
 Meets x (Err e) = x ≡ fault
 
 -- a ring's children and their ends

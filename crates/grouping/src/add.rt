@@ -6,6 +6,7 @@ ghost use Rattle.numbers.specs.Answers.{Agrees};
 ghost use Rattle.state.specs.Parts.{state_of, sized, size_of};
 ghost use Rattle.grouping.specs.Parts.{added_of};
 ghost use Rattle.grouping.specs.Rooms.{RoomFits};
+ghost use Rattle.state.specs.Keeps.{Added};
 
 use crate::best::best_edges;
 use crate::ring::{meet, ring, ring_up};
@@ -26,12 +27,13 @@ fn add_parts(
     e: Edge,
 ) -> Result<(), Fault>
     requires { (sized lists.old ≡ size_of g.now) × RoomFits g.now.nodes room.old }
-    ensures said { (at : Progress) → Agrees (added_of g.now base.0 e.0 (state_of lists.old at)) result (state_of lists.new at) }
+    ensures said { (at : Progress) → Agrees (added_of g.now base e (state_of lists.old at)) result (state_of lists.new at) }
     ensures size { sized lists.new ≡ sized lists.old }
     ensures fits { RoomFits g.now.nodes room.new }
+    ensures others { Added lists.old lists.new }
 {
     let m = meet(g, lists, base, e)?;
-    ring(g, lists, room, m, e)?;
+    ring(g, lists, room, &m, e)?;
     let new = lists.take_free()?;
     ring_up(g, lists, &room.ring, new, base)?;
     settle(lists, new, m.first)?;
@@ -50,9 +52,10 @@ pub fn add_group(
     e: Edge,
 ) -> Result<(), Fault>
     requires { (sized lists.old ≡ size_of g.now) × RoomFits g.now.nodes room.old }
-    ensures said { (at : Progress) → Agrees (add_group_of g.now base.0 e.0 (state_of lists.old at)) result (state_of lists.new at) }
+    ensures said { (at : Progress) → Agrees (add_group_of g.now base e (state_of lists.old at)) result (state_of lists.new at) }
     ensures size { sized lists.new ≡ sized lists.old }
     ensures fits { RoomFits g.now.nodes room.new }
+    ensures others { Added lists.old lists.new }
 {
     add_parts(g, lists, room, base, e)
 }

@@ -4,10 +4,11 @@ ghost use Rattle.laws.specs.Run.{for_each};
 ghost use Rattle.matching.specs.Graph.{missing};
 ghost use Rattle.steps.specs.State.{Progress};
 ghost use Rattle.steps.specs.Add.{gather as gather_of, tightest as tightest_of, best_edges as best_edges_of};
-ghost use Rattle.numbers.specs.Answers.{Agrees, AnswersEdge};
+ghost use Rattle.numbers.specs.Answers.{Agrees, Answers};
 ghost use Rattle.state.specs.Parts.{state_of, sized, size_of};
 ghost use Rattle.grouping.specs.Parts.{gathered};
 ghost use Rattle.grouping.specs.Rooms.{RoomFits};
+ghost use Rattle.state.specs.Keeps.{ButGathered, InLabels};
 
 use crate::consider::consider_child;
 use crate::links::Links;
@@ -29,14 +30,15 @@ pub fn gather(
     c: Group,
 ) -> Result<(), Fault>
     requires { (links.old.nodes ≡ g.now.nodes) × (sized lists.old ≡ size_of g.now) × (nodes.old.room ≡ 2 * g.now.nodes) }
-    ensures said { (at : Progress) → Agrees (gather_of g.now new.0 c.0 (gathered links.old.links (state_of lists.old at))) result (gathered links.new.links (state_of lists.new at)) }
+    ensures said { (at : Progress) → Agrees (gather_of g.now new c (gathered links.old.links (state_of lists.old at))) result (gathered links.new.links (state_of lists.new at)) }
     ensures links { links.new.nodes ≡ links.old.nodes }
     ensures room { nodes.new.room ≡ nodes.old.room }
     ensures size { sized lists.new ≡ sized lists.old }
+    ensures others { InLabels lists.old lists.new × ButGathered lists.old.labels lists.new.labels }
 {
     consider_child(g, lists, links, nodes, new, c)?;
     lists.clear_best_list(c)?;
-    lists.put_best(c.0, Edge(MISSING))
+    lists.put_best(c.number(), Edge::of(MISSING))
 }
 
 // All children in turn.
@@ -49,13 +51,14 @@ pub fn gather_all(
     kids: &[u16],
 ) -> Result<(), Fault>
     requires { (links.old.nodes ≡ g.now.nodes) × (sized lists.old ≡ size_of g.now) × (nodes.old.room ≡ 2 * g.now.nodes) }
-    ensures said { (at : Progress) → Agrees (for_each (gather_of g.now new.0) kids.now (gathered links.old.links (state_of lists.old at))) result (gathered links.new.links (state_of lists.new at)) }
+    ensures said { (at : Progress) → Agrees (for_each (gather_of g.now new) kids.now (gathered links.old.links (state_of lists.old at))) result (gathered links.new.links (state_of lists.new at)) }
     ensures links { links.new.nodes ≡ links.old.nodes }
     ensures room { nodes.new.room ≡ nodes.old.room }
     ensures size { sized lists.new ≡ sized lists.old }
+    ensures others { InLabels lists.old lists.new × ButGathered lists.old.labels lists.new.labels }
 {
     for &c in kids {
-        gather(g, lists, links, nodes, new, Group(c))?;
+        gather(g, lists, links, nodes, new, Group::of(c))?;
     }
     Ok(())
 }
@@ -63,7 +66,7 @@ pub fn gather_all(
 // Edge e, where there is no best edge or e is tighter; else the best edge.
 #[tactic(auto, unfolding(steps::specs::Add::tightest))]
 pub fn keener(g: &Graph, lists: &Lists, e: Edge, best: Edge) -> Result<Edge, Fault>
-    ensures { AnswersEdge (tightest_of g.now lists.now.pairing.lists.duals e.0 best.0) result }
+    ensures { Answers (tightest_of g.now lists.now.pairing.lists.duals e best) result }
 {
     if best.is_missing() {
         return Ok(e);
@@ -74,11 +77,11 @@ pub fn keener(g: &Graph, lists: &Lists, e: Edge, best: Edge) -> Result<Edge, Fau
 
 // The first of the tightest, or missing.
 pub fn tightest(g: &Graph, lists: &Lists, list: &[u16]) -> Result<Edge, Fault>
-    ensures { AnswersEdge (for_each (tightest_of g.now lists.now.pairing.lists.duals) list.now missing) result }
+    ensures { Answers (for_each (tightest_of g.now lists.now.pairing.lists.duals) list.now missing) result }
 {
-    let mut best = Edge(MISSING);
+    let mut best = Edge::of(MISSING);
     for &e in list {
-        best = keener(g, lists, Edge(e), best)?;
+        best = keener(g, lists, Edge::of(e), best)?;
     }
     Ok(best)
 }
@@ -86,10 +89,12 @@ pub fn tightest(g: &Graph, lists: &Lists, list: &[u16]) -> Result<Edge, Fault>
 // The list and the best edge of the new group, whose children are in the room's ring.
 #[tactic(auto, unfolding(steps::specs::Add::best_edges))]
 pub fn best_edges(g: &Graph, lists: &mut Lists, room: &mut Room, new: Group) -> Result<(), Fault>
-    requires { RoomFits g.now.nodes room.old × (sized lists.old ≡ size_of g.now) × (g.now.nodes ≤ new.0) }
-    ensures said { (at : Progress) → Agrees (best_edges_of g.now new.0 room.old.ring.kids (state_of lists.old at)) result (state_of lists.new at) }
+    requires { RoomFits g.now.nodes room.old × (sized lists.old ≡ size_of g.now) × (g.now.nodes ≤ new) }
+    ensures said { (at : Progress) → Agrees (best_edges_of g.now new room.old.ring.kids (state_of lists.old at)) result (state_of lists.new at) }
     ensures size { sized lists.new ≡ sized lists.old }
     ensures fits { RoomFits g.now.nodes room.new }
+    ensures others { InLabels lists.old lists.new × ButGathered lists.old.labels lists.new.labels }
+    ensures ring { room.new.ring ≡ room.old.ring }
 {
     room.links.clear();
     gather_all(
@@ -102,5 +107,5 @@ pub fn best_edges(g: &Graph, lists: &mut Lists, room: &mut Room, new: Group) -> 
     )?;
     lists.put_best_list(new, room.links.edges())?;
     let best = tightest(g, lists, room.links.edges())?;
-    lists.put_best(new.0, best)
+    lists.put_best(new.number(), best)
 }

@@ -25,7 +25,7 @@ pub fn consider(
     e: Edge,
 ) -> Result<(), Fault>
     requires { (links.old.nodes ≡ g.now.nodes) × (sized lists.now ≡ size_of g.now) }
-    ensures said { (at : Progress) → Agrees (consider_of g.now (state_of lists.now at) new.0 e.0 links.old.links) result links.new.links }
+    ensures said { (at : Progress) → Agrees (consider_of g.now (state_of lists.now at) new e links.old.links) result links.new.links }
     ensures size { links.new.nodes ≡ links.old.nodes }
 {
     let x = g.edge(e)?;
@@ -46,11 +46,11 @@ pub fn consider_edges(
     list: &[u16],
 ) -> Result<(), Fault>
     requires { (links.old.nodes ≡ g.now.nodes) × (sized lists.now ≡ size_of g.now) }
-    ensures said { (at : Progress) → Agrees (for_each (consider_of g.now (state_of lists.now at) new.0) list.now links.old.links) result links.new.links }
+    ensures said { (at : Progress) → Agrees (for_each (consider_of g.now (state_of lists.now at) new) list.now links.old.links) result links.new.links }
     ensures size { links.new.nodes ≡ links.old.nodes }
 {
     for &e in list {
-        consider(g, lists, links, new, Edge(e))?;
+        consider(g, lists, links, new, Edge::of(e))?;
     }
     Ok(())
 }
@@ -65,7 +65,7 @@ pub fn consider_end(
     p: End,
 ) -> Result<(), Fault>
     requires { (links.old.nodes ≡ g.now.nodes) × (sized lists.now ≡ size_of g.now) }
-    ensures said { (at : Progress) → Agrees (at_end g.now (state_of lists.now at) new.0 p.0 links.old.links) result links.new.links }
+    ensures said { (at : Progress) → Agrees (at_end g.now (state_of lists.now at) new p links.old.links) result links.new.links }
     ensures size { links.new.nodes ≡ links.old.nodes }
 {
     consider(g, lists, links, new, p.edge())
@@ -80,11 +80,11 @@ pub fn consider_ends(
     list: &[u16],
 ) -> Result<(), Fault>
     requires { (links.old.nodes ≡ g.now.nodes) × (sized lists.now ≡ size_of g.now) }
-    ensures said { (at : Progress) → Agrees (for_each (at_end g.now (state_of lists.now at) new.0) list.now links.old.links) result links.new.links }
+    ensures said { (at : Progress) → Agrees (for_each (at_end g.now (state_of lists.now at) new) list.now links.old.links) result links.new.links }
     ensures size { links.new.nodes ≡ links.old.nodes }
 {
     for &p in list {
-        consider_end(g, lists, links, new, End(p))?;
+        consider_end(g, lists, links, new, End::of(p))?;
     }
     Ok(())
 }
@@ -98,8 +98,8 @@ pub fn consider_at(
     new: Group,
     v: Node,
 ) -> Result<(), Fault>
-    requires { (links.old.nodes ≡ g.now.nodes) × (sized lists.now ≡ size_of g.now) × (v.0 < g.now.nodes) }
-    ensures said { (at : Progress) → Agrees (consider_at_of g.now (state_of lists.now at) new.0 v.0 links.old.links) result links.new.links }
+    requires { (links.old.nodes ≡ g.now.nodes) × (sized lists.now ≡ size_of g.now) × (v < g.now.nodes) }
+    ensures said { (at : Progress) → Agrees (consider_at_of g.now (state_of lists.now at) new v links.old.links) result links.new.links }
     ensures size { links.new.nodes ≡ links.old.nodes }
 {
     consider_ends(g, lists, links, new, g.far_ends(v))
@@ -114,11 +114,11 @@ pub fn consider_nodes(
     list: &[u16],
 ) -> Result<(), Fault>
     requires { (links.old.nodes ≡ g.now.nodes) × (sized lists.now ≡ size_of g.now) × Each (λ v. v < g.now.nodes) list.now }
-    ensures said { (at : Progress) → Agrees (for_each (consider_at_of g.now (state_of lists.now at) new.0) list.now links.old.links) result links.new.links }
+    ensures said { (at : Progress) → Agrees (for_each (consider_at_of g.now (state_of lists.now at) new) list.now links.old.links) result links.new.links }
     ensures size { links.new.nodes ≡ links.old.nodes }
 {
     for &v in list {
-        consider_at(g, lists, links, new, Node(v))?;
+        consider_at(g, lists, links, new, Node::of(v))?;
     }
     Ok(())
 }
@@ -134,7 +134,7 @@ pub fn consider_leaves(
     c: Group,
 ) -> Result<(), Fault>
     requires { (links.old.nodes ≡ g.now.nodes) × (sized lists.now ≡ size_of g.now) × (nodes.old.room ≡ 2 * g.now.nodes) }
-    ensures said { (at : Progress) → Agrees (consider_child_of g.now (state_of lists.now at) new.0 c.0 [] links.old.links) result links.new.links }
+    ensures said { (at : Progress) → Agrees (consider_child_of g.now (state_of lists.now at) new c [] links.old.links) result links.new.links }
     ensures size { links.new.nodes ≡ links.old.nodes }
     ensures room { nodes.new.room ≡ nodes.old.room }
 {
@@ -154,7 +154,7 @@ pub fn consider_child(
     c: Group,
 ) -> Result<(), Fault>
     requires { (links.old.nodes ≡ g.now.nodes) × (sized lists.now ≡ size_of g.now) × (nodes.old.room ≡ 2 * g.now.nodes) }
-    ensures said { (at : Progress) → Agrees (consider_own g.now (state_of lists.now at) new.0 c.0 links.old.links) result links.new.links }
+    ensures said { (at : Progress) → Agrees (consider_own g.now (state_of lists.now at) new c links.old.links) result links.new.links }
     ensures size { links.new.nodes ≡ links.old.nodes }
     ensures room { nodes.new.room ≡ nodes.old.room }
 {

@@ -60,7 +60,7 @@ impl<'a> Links<'a> {
         self.len = 0;
     }
 
-    // The edges of the links, in order.
+    // The edges of the links, in order. Lent by themselves, as a path's kids and ends are: the candidates of a group take them so.
     pub fn edges(&self) -> &[u16]
         ensures said { result.now ≡ map (λ (x : Link). x.edge) self.now.links }
         ensures few { length result.now ≤ self.now.nodes }
@@ -73,28 +73,29 @@ impl<'a> Links<'a> {
     #[tactic(auto, using(crate::proofs::LinkLaws::labels))]
     pub fn consider_to(&mut self, g: &Graph, lists: &Lists, j: Group, e: Edge) -> Result<(), Fault>
         requires { (self.old.nodes ≡ g.now.nodes) × (sized lists.now ≡ size_of g.now) }
-        ensures said { (at : Progress) → Agrees (consider_to_of g.now (state_of lists.now at) j.0 e.0 self.old.links) result self.new.links }
+        ensures said { (at : Progress) → Agrees (consider_to_of g.now (state_of lists.now at) j e self.old.links) result self.new.links }
         ensures size { self.new.nodes ≡ self.old.nodes }
     {
-        let l = lists.label(j.0)?;
+        let k = j.number();
+        let l = lists.label(k)?;
         let len = self.len;
         if l != 1 {
             return Ok(());
         }
-        let at = self.seat[j.0 as usize];
+        let at = self.seat[k as usize];
         if at < len {
-            let tight = lists.tighter(g, e, Edge(self.edges[at as usize]))?;
+            let tight = lists.tighter(g, e, Edge::of(self.edges[at as usize]))?;
             if tight {
-                self.edges[at as usize] = e.0;
+                self.edges[at as usize] = e.number();
             }
             return Ok(());
         }
         if len >= self.n {
             return Err(Fault);
         }
-        self.edges[len as usize] = e.0;
-        self.towards[len as usize] = j.0;
-        self.seat[j.0 as usize] = len;
+        self.edges[len as usize] = e.number();
+        self.towards[len as usize] = k;
+        self.seat[k as usize] = len;
         self.len = len + 1;
         Ok(())
     }

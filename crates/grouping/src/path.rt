@@ -35,6 +35,7 @@ impl<'a> Path<'a> {
         Path { kids, ends, len: 0 }
     }
 
+    // A method of its own, as `Stack` and `Links` have: a trait for one line would be no shorter.
     pub fn clear(&mut self)
         ensures { self.new ≡ pathed [] [] self.old.room }
     {
@@ -65,29 +66,29 @@ impl<'a> Path<'a> {
 
     // A group and its end go on the end.
     pub fn push(&mut self, kid: Group, end: End) -> Result<(), Fault>
-        ensures said { Pushes kid.0 end.0 self.old result self.new }
+        ensures said { Pushes kid end self.old result self.new }
         ensures room { self.new.room ≡ self.old.room }
     {
         let at = self.len as usize;
         if at >= self.kids.len() {
             return Err(Fault);
         }
-        self.kids[at] = kid.0;
-        self.ends[at] = end.0;
+        self.kids[at] = kid.number();
+        self.ends[at] = end.number();
         self.len += 1;
         Ok(())
     }
 
     // From the first path, with the base's child on its end: both backward, and the first end of edge e.
     pub fn close(&mut self, first: Group, e: Edge)
-        requires { (length self.old.kids < self.old.room) × (e.0 < 32768) }
-        ensures { self.new ≡ closed first.0 e.0 self.old }
+        requires { (length self.old.kids < self.old.room) × (e < 32768) }
+        ensures { self.new ≡ closed first e self.old }
     {
         let k = self.len as usize;
-        self.kids[k] = first.0;
+        self.kids[k] = first.number();
         turn(self.kids, k + 1);
         turn(self.ends, k);
-        self.ends[k] = e.first_end().0;
+        self.ends[k] = e.first_end().number();
         self.len += 1;
     }
 
@@ -118,6 +119,6 @@ fn put_beside(list: &mut [u16], from: usize, ends: &[u16])
 {
     // Two lists at one place: writing through an iterator would tell nothing of the entries.
     for k in 0..ends.len() {
-        list[from + k] = End(ends[k]).beside().0;
+        list[from + k] = End::of(ends[k]).beside().number();
     }
 }

@@ -9,6 +9,7 @@ ghost use Rattle.numbers.specs.Answers.{Agrees};
 ghost use Rattle.state.specs.Parts.{state_of, sized, size_of};
 ghost use Rattle.grouping.specs.Parts.{meeting_of, Meets, ring_of, Rings};
 ghost use Rattle.grouping.specs.Rooms.{RoomFits};
+ghost use Rattle.state.specs.Keeps.{ButParents, InForest, Ringed};
 
 use crate::path::Path;
 use crate::room::Room;
@@ -28,8 +29,8 @@ pub struct Meeting {
 
 #[tactic(auto, unfolding(crate::specs::Parts::meeting_of))]
 pub fn meet(g: &Graph, lists: &Lists, base: Node, e: Edge) -> Result<Meeting, Fault>
-    ensures said { (at : Progress) → Meets (meeting_of g.now base.0 e.0 (state_of lists.now at)) result }
-    ensures few { IfOk result (λ m. e.0 < 16384) }
+    ensures said { (at : Progress) → Meets (meeting_of g.now base e (state_of lists.now at)) result }
+    ensures few { IfOk result (λ m. e < 32767) }
 {
     let x = g.edge(e)?;
     let first = lists.top(base)?;
@@ -40,9 +41,9 @@ pub fn meet(g: &Graph, lists: &Lists, base: Node, e: Edge) -> Result<Meeting, Fa
 
 // The ring of the two paths from edge e back to their meeting point, with no more children than nodes.
 #[tactic(auto, unfolding(crate::specs::Parts::ring_of))]
-pub fn ring(g: &Graph, lists: &Lists, room: &mut Room, m: Meeting, e: Edge) -> Result<(), Fault>
-    requires { RoomFits g.now.nodes room.old × (e.0 < 16384) }
-    ensures said { (at : Progress) → Rings (ring_of g.now (state_of lists.now at) m.first.0 m.v.0 m.w.0 e.0) result room.new.ring }
+pub fn ring(g: &Graph, lists: &Lists, room: &mut Room, m: &Meeting, e: Edge) -> Result<(), Fault>
+    requires { RoomFits g.now.nodes room.old × (e < 32768) }
+    ensures said { (at : Progress) → Rings (ring_of g.now (state_of lists.now at) m.now.first m.now.v m.now.w e) result room.new.ring }
     ensures few { IfOk result (λ k. length room.new.ring.kids ≤ g.now.nodes) }
     ensures fits { RoomFits g.now.nodes room.new }
 {
@@ -82,18 +83,20 @@ pub fn fit_children(n: u16, kids: &[u16]) -> bool
 // The children have the new group as parent.
 #[tactic(auto, unfolding(steps::specs::Add::adopt))]
 pub fn adopt(lists: &mut Lists, new: Group, c: Group) -> Result<(), Fault>
-    ensures said { (at : Progress) → Agrees (adopt_of new.0 c.0 (state_of lists.old at)) result (state_of lists.new at) }
+    ensures said { (at : Progress) → Agrees (adopt_of new c (state_of lists.old at)) result (state_of lists.new at) }
     ensures size { sized lists.new ≡ sized lists.old }
+    ensures others { InForest lists.old lists.new × ButParents lists.old.forest lists.new.forest }
 {
     lists.put_parent(c, new)
 }
 
 pub fn adopt_all(lists: &mut Lists, new: Group, kids: &[u16]) -> Result<(), Fault>
-    ensures said { (at : Progress) → Agrees (for_each (adopt_of new.0) kids.now (state_of lists.old at)) result (state_of lists.new at) }
+    ensures said { (at : Progress) → Agrees (for_each (adopt_of new) kids.now (state_of lists.old at)) result (state_of lists.new at) }
     ensures size { sized lists.new ≡ sized lists.old }
+    ensures others { InForest lists.old lists.new × ButParents lists.old.forest lists.new.forest }
 {
     for &c in kids {
-        adopt(lists, new, Group(c))?;
+        adopt(lists, new, Group::of(c))?;
     }
     Ok(())
 }
@@ -108,18 +111,19 @@ pub fn ring_up(
     base: Node,
 ) -> Result<(), Fault>
     requires { (sized lists.old ≡ size_of g.now) × (length path.now.kids ≤ g.now.nodes) }
-    ensures said { (at : Progress) → Agrees (ring_up_of g.now new.0 base.0 path.now.kids path.now.ends (state_of lists.old at)) result (state_of lists.new at) }
+    ensures said { (at : Progress) → Agrees (ring_up_of g.now new base path.now.kids path.now.ends (state_of lists.old at)) result (state_of lists.new at) }
     ensures size { sized lists.new ≡ sized lists.old }
-    ensures group { IfOk result (λ k. g.now.nodes ≤ new.0) }
+    ensures group { IfOk result (λ k. g.now.nodes ≤ new) }
+    ensures others { Ringed lists.old lists.new }
 {
     let n = g.nodes();
-    if new.0 < n {
+    if new.number() < n {
         return Err(Fault);
     }
     let kids = path.kids();
     must(fit_children(n, kids))?;
     lists.put_base(new, base)?;
-    lists.put_parent(new, Group(MISSING))?;
+    lists.put_parent(new, Group::of(MISSING))?;
     adopt_all(lists, new, kids)?;
     lists.put_children(new, kids)?;
     lists.put_ring_ends(new, path.ends())

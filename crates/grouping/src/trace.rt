@@ -22,19 +22,19 @@ pub struct Back {
 // Group b has label 2, or label 1 that came through its base's mate.
 #[tactic(auto, unfolding(steps::specs::Add::traceable))]
 pub fn traceable(lists: &Lists, b: Group, e: End) -> Result<bool, Fault>
-    ensures { (at : Progress) → Answers (traceable_of (state_of lists.now at) b.0 e.0) result }
+    ensures { (at : Progress) → Answers (traceable_of (state_of lists.now at) b e) result }
 {
-    let l = lists.label(b.0)?;
+    let l = lists.label(b.number())?;
     Ok(l == 2 || l == 1 && e == lists.base_mate(b)?)
 }
 
 // One group back from b.
 #[tactic(auto, unfolding(steps::specs::Add::trace_move))]
 pub fn step_back(g: &Graph, lists: &Lists, b: Group) -> Result<Back, Fault>
-    ensures { (at : Progress) (kids : List ℕ) (ends : List ℕ) → Steps (trace_move g.now (state_of lists.now at) (standing b.0 kids ends)) b.0 kids ends result }
+    ensures { (at : Progress) (kids : List ℕ) (ends : List ℕ) → Steps (trace_move g.now (state_of lists.now at) (standing b kids ends)) b kids ends result }
 {
     let end = lists.label_end(b)?;
-    present(end.0)?;
+    present(end.number())?;
     let fine = traceable(lists, b, end)?;
     must(fine)?;
     let v = g.endpoint(end)?;
@@ -46,7 +46,7 @@ pub fn step_back(g: &Graph, lists: &Lists, b: Group) -> Result<Back, Fault>
 #[tactic(auto, using(crate::proofs::TraceLaws::traces), unfolding(steps::specs::Add::trace))]
 pub fn trace(g: &Graph, lists: &Lists, stop: Group, b: Group, path: &mut Path) -> Result<(), Fault>
     requires { path.old.room ≡ 2 * g.now.nodes }
-    ensures said { (at : Progress) → Agrees (trace_of g.now (state_of lists.now at) stop.0 b.0) result (standing stop.0 path.new.kids path.new.ends) }
+    ensures said { (at : Progress) → Agrees (trace_of g.now (state_of lists.now at) stop b) result (standing stop path.new.kids path.new.ends) }
     ensures room { path.new.room ≡ path.old.room }
 {
     path.clear();

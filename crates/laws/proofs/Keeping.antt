@@ -88,6 +88,10 @@ kept_pop [] = torn
 kept_pop (x ∷ []) = kept refl
 kept_pop (x ∷ y ∷ ys) = kept_bind (kept_pop (y ∷ ys)) (λ r e. kept (ap {B = List ℕ} (λ l. x ∷ l) e))
 
+pub kept_push : {A : Type 0} (cap : ℕ) (v : A) (xs : List A) → Kept (λ ys. ys ≡ xs ++ (v ∷ [])) (push cap v xs)
+unfolding push
+kept_push cap v xs = either_way (ltb (length xs) cap) (ok (xs ++ (v ∷ []))) fault (λ t. kept refl) (λ n. torn)
+
 -- a push that has room
 pub pushed : {A : Type 0} (cap : ℕ) (v : A) (xs : List A) → length xs < cap → push cap v xs ≡ ok (xs ++ (v ∷ []))
 unfolding push

@@ -3,13 +3,13 @@
 use Rattle.std.specs.Prelude.{if◌then◌else◌}
 use mathlib.Core.Path.{◌≡◌, refl, subst}
 use mathlib.Core.Bool.{Bool, true, false}
-use mathlib.Core.List.{List, [], ◌∷◌}
-use Prim.Native.Nat.{ℕ, zero, suc, ◌+◌, ◌<◌}
+use mathlib.Core.List.{List, [], ◌∷◌, ◌++◌}
+use Prim.Native.Nat.{ℕ, zero, suc, ◌+◌, ◌≤◌, ◌<◌}
 use native.Mathlib.Omega.{arith}
 use lib.Dec.{T, ltb, ltb→lt}
-use lib.ListN.{length, get_or, set}
+use lib.ListN.{length, get_or, set, length-append}
 use Rattle.laws.proofs.Lists.{count_on}
-use Rattle.laws.specs.Run.{Run, ok, fault, ◌>>=◌, only_if, for_each, for_range, while, at, put}
+use Rattle.laws.specs.Run.{Run, ok, fault, ◌>>=◌, only_if, for_each, for_range, while, at, put, push}
 
 pub at_end : (k : ℕ) → k ≡ k + 0
 at_end k = omega arith
@@ -41,6 +41,15 @@ module _ {A : Type 0} where
   kept_at [] i d = torn
   kept_at (x ∷ xs) zero d = kept (omega arith, refl)
   kept_at (x ∷ xs) (suc i) d = kept_map (λ a p. (omega (arith, p.0), p.1)) (kept_at xs i d)
+
+  -- a push leaves no more than the cap
+  pub kept_push : (cap : ℕ) (v : A) (xs : List A) → Kept (λ ys. length ys ≤ cap) (push cap v xs)
+  unfolding push
+  kept_push cap v xs = go (ltb (length xs) cap) (ltb→lt (length xs) cap)
+    where
+      go : (t : Bool) → (T t → length xs < cap) → Kept (λ ys. length ys ≤ cap) (if t then ok (xs ++ (v ∷ [])) else fault)
+      go true f = kept {a = xs ++ (v ∷ [])} (rw (length-append xs (v ∷ [])) (omega (arith, f tt)))
+      go false f = torn
 
   pub kept_put : (xs : List A) (i : ℕ) (v : A) → Kept (λ ys. (i < length xs) × (ys ≡ set xs i v)) (put xs i v)
   unfolding put

@@ -9,4 +9,5 @@ pub mod Rows
 pub mod Kept
 pub mod Times
 pub mod Keeping
+pub mod Flips
 pub mod Ranges

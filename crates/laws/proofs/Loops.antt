@@ -7,7 +7,8 @@ use native.Mathlib.Nat.{le_of_suc-le-suc, not-suc-le-zero}
 use native.Mathlib.Numerals.{add-one}
 use native.Mathlib.Omega.{arith}
 use lib.Dec.{T}
-use lib.ListN.{length, get_or}
+use lib.ListN.{length, get_or, drop, drop_of_length-le}
+use lib.Seq.{drop-cons}
 use Rattle.std.specs.List.{list_all, range_with_len}
 use Rattle.laws.specs.Lists.{Each, all, keep, range, sum}
 
@@ -90,6 +91,17 @@ all_both p q (x ∷ xs) = rw (all_both p q xs) (go (p x) (q x) (all p xs) (all q
     go true false true d = refl
     go true false false d = refl
     go false b c d = refl
+
+-- ---- the entries of a list from place k on
+
+module _ (f : ℕ → ℕ) {whole : ℕ} (s k : ℕ) (l : List ℕ) where
+  pub entries_next : k < length l → s + sum (drop k l) f ≡ whole → s + f (get_or l k 0) + sum (drop (k + 1) l) f ≡ whole
+  unfolding sum
+  entries_next h w = rw add-one (omega (arith, rw (drop-cons l k 0 h) at w))
+
+  pub entries_end : length l ≤ k → s + sum (drop k l) f ≡ whole → s ≡ whole
+  unfolding sum
+  entries_end h w = omega (arith, rw (drop_of_length-le l h) at w)
 
 -- ---- the entries kept so far
 

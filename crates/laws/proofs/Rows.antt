@@ -8,7 +8,7 @@ use native.Mathlib.Nat.{not-suc-le-zero, le_of_suc-le-suc, add-zero, mul-le-mul_
 use native.Mathlib.Omega.{arith}
 use lib.Dec.{T, ltb, ltb→lt, nltb→le}
 use lib.ListN.{length, get_or, set, take, drop, length-take, length-drop, length-append, replicate}
-use lib.Seq.{get_or-take, get_or-drop, take_at, take_all, take-take, drop_at, take-append-le}
+use lib.Seq.{get_or-take, get_or-drop, drop-set-add, drop-set-lt, take-set-le, take_at, take_all, take-take, drop_at, take-append-le}
 use lib.Seq.{drop-append-le, drop-append-add}
 use Rattle.laws.specs.Lists.{range}
 use Rattle.laws.specs.Run.{ok, fault, at, put}
@@ -97,6 +97,26 @@ module _ {A : Type 0} (width : ℕ) where
       → at (row_of width counts pool g) k ≡ ok (get_or pool (g * width + k) d)
   at_row_of counts pool g k d h l =
       at_in (row_of width counts pool g) k d (rw (row_of_length counts pool g h) l) ∙ ap ok (row_of_at counts pool g k d l)
+
+  -- a store in row g's places leaves the places of the others
+  pub places_other : (pool : List A) (g k : ℕ) (v : A) (j : ℕ) → j ≢ g → k < width
+      → places width (set pool (g * width + k) v) j ≡ places width pool j
+  places_other pool g k v j n l = go (ltb j g) (ltb→lt j g) (nltb→le j g)
+    where
+      -- the store lies past row j
+      past : j < g → places width (set pool (g * width + k) v) j ≡ places width pool j
+      past h =
+          let far : g * width + k ≡ j * width + (g * width + k - j * width) = omega (arith, before width j g h) in
+          rw (far, drop-set-add (j * width) pool (g * width + k - j * width) v)
+          (take-set-le width (drop (j * width) pool) (g * width + k - j * width) v (omega (arith, before width j g h)))
+
+      -- the store lies ahead of row j
+      ahead : g < j → places width (set pool (g * width + k) v) j ≡ places width pool j
+      ahead h = rw (drop-set-lt (j * width) pool (g * width + k) v (omega (arith, before width g j h)))
+
+      go : (t : Bool) → (T t → j < g) → (T (not t) → g ≤ j) → places width (set pool (g * width + k) v) j ≡ places width pool j
+      go true f h = past (f tt)
+      go false f h = ahead (⊎_elim (λ e. absurd (n (sym e))) (λ q. q) (eq-or-lt_of_le (h tt)))
 
   -- ---- a row rewritten whole: the pool is a, the row's entries in use, and what is after them
 

@@ -1,14 +1,14 @@
 -- Reads and stores of a list, and of a window: the first k entries of a list with room for more, as an array holds a list.
 use mathlib.Core.Path.{◌≡◌, refl, sym, ap, ◌∙◌}
 use mathlib.Core.List.{List, [], ◌∷◌, ◌++◌, append-nil}
-use Prim.Native.Nat.{ℕ, zero, suc, ◌+◌, ◌≤◌, ◌<◌}
+use Prim.Native.Nat.{ℕ, zero, suc, ◌+◌, ◌-◌, ◌≤◌, ◌<◌}
 use native.Mathlib.Nat.{le_of_suc-le-suc, not-suc-le-zero, zero-add, suc-add}
 use native.Mathlib.Numerals.{add-one}
 use native.Mathlib.Omega.{arith}
 use borrow.Author.Tests.{lt-ltb, le-ltb}
 use lib.ListN.{length, get_or, set, take, replicate, length-take, drop, drop_of_length-le}
-use lib.Seq.{take-suc, take-suc-set, take_all}
-use Rattle.laws.specs.Run.{ok, fault, at, put, push}
+use lib.Seq.{take-suc, take-suc-set, take_all, take-append-add}
+use Rattle.laws.specs.Run.{Run, ok, fault, at, put, push, and_then}
 use mathlib.Core.Bool.{Bool, true, false, not}
 use lib.Dec.{T, ltb, ltb→lt, nltb→le}
 use Rattle.laws.proofs.Runs.{not_ok}
@@ -52,6 +52,14 @@ module _ {A : Type 0} where
       go true f g = not_ok (sym e ∙ put_in xs i v (f tt))
       go false f g = g tt
 
+  -- a read whose answer is not used goes unnoticed before what faults where a store to that entry does
+  pub at_unused : {B : Type 0} (xs : List A) (i : ℕ) (v : A) (r : Run B) → (put xs i v ≡ fault → r ≡ fault) → and_then (at xs i) (λ _. r) ≡ r
+  at_unused xs i v r f = go (ltb i (length xs)) (ltb→lt i (length xs)) (nltb→le i (length xs))
+    where
+      go : (t : Bool) → (T t → i < length xs) → (T (not t) → length xs ≤ i) → and_then (at xs i) (λ _. r) ≡ r
+      go true h g = rw (at_in xs i v (h tt))
+      go false h g = rw (at_out xs i (g tt)) (sym (f (put_out xs i v (g tt))))
+
   -- ---- a window
 
   -- a store and a cut change places, wherever the store is
@@ -70,6 +78,16 @@ module _ {A : Type 0} where
   pub drop_replicate : (k n : ℕ) (v : A) → drop k (replicate (k + n) v) ≡ replicate n v
   drop_replicate zero n v = rw zero-add
   drop_replicate (suc k) n v = rw (suc-add k n) (drop_replicate k n v)
+
+  -- the first k + j of a list whose first k were written anew, and which else holds one entry throughout
+  pub take_written : (new : List A) (k j n : ℕ) (v : A) → length new ≡ k → k + j ≤ n
+      → take (k + j) (new ++ drop k (replicate n v)) ≡ new ++ replicate j v
+  take_written new k j n v e h =
+      let m : n ≡ k + (n - k) = omega arith in
+      let r : drop k (replicate n v) ≡ replicate (n - k) v = ap (λ (i : ℕ). drop k (replicate i v)) m ∙ drop_replicate k (n - k) v in
+      rw (r, ← e)
+      (take-append-add new (replicate (n - length new) v) j
+      ∙ ap {B = List A} (λ t. new ++ t) (take_replicate j (n - length new) v (omega arith)))
 
   pub push_window_out : (xs : List A) (cap k : ℕ) (v : A) → cap ≤ k → cap ≤ length xs → push cap v (take k xs) ≡ fault
   unfolding push

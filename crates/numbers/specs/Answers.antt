@@ -2,32 +2,12 @@
 use Rattle.std.specs.Prelude.{◌≡◌, ◌≤◌, List, ℕ, Result, Ok, Err, length}
 use Rattle.std.specs.Borrow.{Bor}
 use Rattle.laws.specs.Run.{Run, ok, fault}
-use Rattle.numbers.specs.declared.Node.{Node}
-use Rattle.numbers.specs.declared.Edge.{Edge}
-use Rattle.numbers.specs.declared.End.{End}
-use Rattle.numbers.specs.declared.Group.{Group}
 use Rattle.numbers.specs.declared.faults.Fault.{Fault}
 
 -- the run x answers r
 abbrev pub Answers : {A : Type 0} → Run A → Result A Fault → Type 0
 Answers x (Ok a) = x ≡ ok a
 Answers x (Err e) = x ≡ fault
-
-abbrev pub AnswersNode : Run ℕ → Result Node Fault → Type 0
-AnswersNode x (Ok v) = x ≡ ok v.0
-AnswersNode x (Err e) = x ≡ fault
-
-abbrev pub AnswersEdge : Run ℕ → Result Edge Fault → Type 0
-AnswersEdge x (Ok e) = x ≡ ok e.0
-AnswersEdge x (Err f) = x ≡ fault
-
-abbrev pub AnswersEnd : Run ℕ → Result End Fault → Type 0
-AnswersEnd x (Ok p) = x ≡ ok p.0
-AnswersEnd x (Err e) = x ≡ fault
-
-abbrev pub AnswersGroup : Run ℕ → Result Group Fault → Type 0
-AnswersGroup x (Ok b) = x ≡ ok b.0
-AnswersGroup x (Err e) = x ≡ fault
 
 abbrev pub AnswersRow : Run (List ℕ) → Result (Bor (List ℕ)) Fault → Type 0
 AnswersRow x (Ok r) = x ≡ ok r.now

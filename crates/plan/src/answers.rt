@@ -28,12 +28,13 @@ impl From<Stopped> for Answer {
 }
 
 // Number, place and steps by a match: the cases hold values, so no cast gives them.
+// By reference: what holds an edge is not copied where it is passed by value and used again.
 impl Answer {
     // Document 01's number of an answer.
-    pub fn number(self) -> u16
-        ensures { result ≡ number_of self }
+    pub fn number(&self) -> u16
+        ensures { result ≡ number_of self.now }
     {
-        match self {
+        match *self {
             Answer::Done(_) => 0,
             Answer::Refused(cause) => cause.number(),
             Answer::Steps(_) => 7,
@@ -42,20 +43,20 @@ impl Answer {
     }
 
     // Its place: the edge of a refusal, or 0.
-    pub fn place(self) -> u16
-        ensures { result ≡ place_of self }
+    pub fn place(&self) -> u16
+        ensures { result ≡ place_of self.now }
     {
-        match self {
+        match *self {
             Answer::Refused(cause) => cause.place(),
             Answer::Done(_) | Answer::Steps(_) | Answer::Fault(_) => 0,
         }
     }
 
     // The steps completed: none where the call is refused.
-    pub fn steps(self) -> u32
-        ensures { result ≡ steps_of self }
+    pub fn steps(&self) -> u32
+        ensures { result ≡ steps_of self.now }
     {
-        match self {
+        match *self {
             Answer::Done(steps) | Answer::Steps(steps) | Answer::Fault(steps) => steps,
             Answer::Refused(_) => 0,
         }

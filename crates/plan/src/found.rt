@@ -11,8 +11,10 @@ use crate::request::Request;
 use certificate::answers::Condition;
 use certificate::judge;
 use search::search::Search;
+use state::pools::copy;
 use std::marker::Model;
 
+// Apart from the request, which is lent for reading while this is written.
 #[derive(Drop)]
 pub(crate) struct Found<'a> {
     n: u16,
@@ -85,8 +87,8 @@ impl<'a> Found<'a> {
         ensures parents { parents.new ≡ self.now.certificate.parents ++ drop (2 * self.now.nodes) parents.old }
     {
         let n = self.n as usize;
-        mates[..n].copy_from_slice(self.mates);
-        duals[..2 * n].copy_from_slice(self.duals);
-        parents[..2 * n].copy_from_slice(self.parents);
+        copy(self.mates, &mut mates[..n]);
+        copy(self.duals, &mut duals[..2 * n]);
+        copy(self.parents, &mut parents[..2 * n]);
     }
 }

@@ -8,7 +8,7 @@ use Rattle.printed.specs.declared.pair.Pair.{Pair}
 use Rattle.printed.specs.declared.pair.Plan.{Plan}
 
 abbrev pub pair_view : Pair → answer.Pair
-pair_view x = record { lower = x.lower.0; higher = x.higher.0; weight = x.weight }
+pair_view x = record { lower = x.lower; higher = x.higher; weight = x.weight }
 
 -- one pair or none
 abbrev pub pair_in : Option Pair → List answer.Pair

@@ -13,18 +13,18 @@ impl<'a> Plan<'a> {
     // The pair whose lower node is v.
     #[tactic(auto, using(crate::proofs::PairLaws::nodes))]
     fn pair_at(self, v: Node) -> Option<Pair>
-        requires { v.0 < self.n }
-        ensures { pair_in result ≡ pair_at (graph_in self.entry) self.entry.mates.now v.0 }
+        requires { v < self.n }
+        ensures { pair_in result ≡ pair_at (graph_in self.entry) self.entry.mates.now v }
     {
         let p = self.mates[usize::from(v.number())];
         if p == MISSING {
             return None;
         }
-        let e = usize::from(End(p).edge().number());
+        let e = usize::from(End::of(p).edge().number());
         if self.first.len() <= e {
             return None;
         }
-        let u = node_at(self.first, self.second, End(p));
+        let u = node_at(self.first, self.second, End::of(p));
         if u.number() <= v.number() {
             return None;
         }
@@ -42,7 +42,7 @@ impl<'a> Plan<'a> {
     {
         let mut count = 0;
         for v in 0..self.n {
-            if let Some(_) = self.pair_at(Node(v)) {
+            if let Some(_) = self.pair_at(Node::of(v)) {
                 count += 1;
             }
         }
@@ -52,8 +52,8 @@ impl<'a> Plan<'a> {
     // What that pair weighs; 0 where there is none.
     #[tactic(auto, using(crate::proofs::PairLaws::weights))]
     fn weight_at(self, v: Node) -> i64
-        requires { v.0 < self.n }
-        ensures weight { result ≡ weights_total (pair_at (graph_in self.entry) self.entry.mates.now v.0) }
+        requires { v < self.n }
+        ensures weight { result ≡ weights_total (pair_at (graph_in self.entry) self.entry.mates.now v) }
         ensures light { nat_abs result ≤ 1000000000 }
     {
         match self.pair_at(v) {
@@ -70,7 +70,7 @@ impl<'a> Plan<'a> {
     {
         let mut sum = 0;
         for v in 0..self.n {
-            sum += self.weight_at(Node(v));
+            sum += self.weight_at(Node::of(v));
         }
         sum
     }
@@ -96,7 +96,7 @@ impl<'a> Text<'a> {
         ensures { Puts (pair_lines (pairs_in plan.entry)) self.old self.new }
     {
         for v in 0..plan.n {
-            if let Some(pair) = plan.pair_at(Node(v)) {
+            if let Some(pair) = plan.pair_at(Node::of(v)) {
                 self.put_pair(pair);
             }
         }

@@ -1,12 +1,12 @@
 // What the replay programs share: numbers that stand in their input, and lines on what differs. A read that fails counts as the end of
-// the input, and all bytes past its end are 0.
+// the input, and all bytes of a number past its end are 0.
 #![tactic(auto)]
 
 ghost use Rattle.replays.specs.Input.{Gives, Reads, Sized, amount_of, length_of};
 ghost use Rattle.replays.specs.Told.{told};
 ghost use Rattle.std.specs.Int.{from_le_bytes, w16, w32};
 ghost use Rattle.std.specs.Io.KnownBytes.{Appends, Consumes};
-ghost use Rattle.std.specs.Prelude.{◌≡◌, ◌+◌, ◌-◌, ◌≤◌, OnOk, length, take, drop, replicate};
+ghost use Rattle.std.specs.Prelude.{◌≡◌, ◌+◌, ◌≤◌, OnOk, length, take, drop};
 
 use std::io;
 use std::io::{Read, Write};
@@ -14,13 +14,11 @@ use std::io::{Read, Write};
 // The most entries of a list.
 pub const ENTRIES: usize = 2112;
 
-// Reads until the buffer is full, the input ends or a read fails: how many bytes came. What a reader may have left behind its last
-// byte is cleared.
+// Reads until the buffer is full, the input ends or a read fails: how many bytes came. Behind them it writes nothing itself.
 #[tactic(auto, using(crate::proofs::Reading::takes_on))]
 pub fn read_full<R: Read>(from: &mut R, buffer: &mut [u8]) -> usize
     ensures count { result ≤ length buffer.new }
     ensures bytes { Consumes (R.remaining from.old) (R.remaining from.new) (take result buffer.new) }
-    ensures rest { drop result buffer.new ≡ replicate (length buffer.new - result) 0 }
 {
     let mut done = 0;
     while done < buffer.len() {
@@ -30,7 +28,6 @@ pub fn read_full<R: Read>(from: &mut R, buffer: &mut [u8]) -> usize
         }
         done += more;
     }
-    buffer[done..].fill(0);
     done
 }
 
@@ -44,13 +41,14 @@ fn read_on<R: Read>(from: &mut R, buffer: &mut [u8], done: usize) -> usize
     from.read(&mut buffer[done..]).unwrap_or(0)
 }
 
-// The bytes that come next.
+// The bytes that come next. What a reader may have left behind its last byte is cleared.
 pub fn bytes<R: Read, const N: usize>(from: &mut R) -> [u8; N]
     ensures { Gives (R.remaining from.old) (R.remaining from.new) result }
 {
     let mut all = [0; N];
     let list = &mut all[..];
-    read_full(from, list);
+    let done = read_full(from, list);
+    list[done..].fill(0);
     all
 }
 

@@ -12,11 +12,11 @@ use Rattle.steps.specs.Stores.{with_phase}
 use Rattle.state.specs.Walks.{AnswersBase}
 
 module _ (G : Graph) (v w e : ℕ) (s : State) (r : Option Node) (m : AnswersBase (scan G v w s) (Ok r)) where
-  pub join_adds : (b : Node) (s' : State) → r ≡ Some b → add_group G b.0 e s ≡ ok s' → join is_group G v w e s ≡ ok s'
+  pub join_adds : (b : Node) (s' : State) → r ≡ Some b → add_group G b e s ≡ ok s' → join is_group G v w e s ≡ ok s'
   unfolding join
   join_adds b s' h a = let k = rw h at m in rw (k.0, k.1, a) refl
 
-  pub join_adds_not : (b : Node) → r ≡ Some b → add_group G b.0 e s ≡ fault → join is_group G v w e s ≡ fault
+  pub join_adds_not : (b : Node) → r ≡ Some b → add_group G b e s ≡ fault → join is_group G v w e s ≡ fault
   unfolding join
   join_adds_not b h a = let k = rw h at m in rw (k.0, k.1, a) refl
 

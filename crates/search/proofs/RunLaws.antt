@@ -1,13 +1,13 @@
 -- A run, one step at a time.
 use Rattle.std.proofs.Common.{◌≡◌, ◌≢◌, ◌+◌, ℕ, zero, suc, Bool, true, false, refl, ap, add-one, Result, Ok, Err, is_ok, MatchResult}
-use Rattle.laws.specs.Run.{Run, ok, fault}
+use Rattle.laws.specs.Run.{ok, fault}
 use Rattle.matching.specs.Graph.{Graph, is_group}
 use Rattle.steps.specs.State.{State}
 use Rattle.steps.specs.Steps.{step}
 use Rattle.numbers.specs.declared.faults.Fault.{Fault}
 use Rattle.search.specs.declared.running.Stopped.{Stopped}
 use Rattle.search.specs.Searched.{Searched}
-use Rattle.steps.specs.Plan.{Ending, finished, spent, broken, is_ended, run_by}
+use Rattle.steps.specs.Plan.{finished, spent, broken, is_ended, run_by}
 
 module _ (G : Graph) (flag : Bool) where
   pub run_ends : (left count : ℕ) (s : State) → is_ended s.progress.phase ≡ true → run_by is_group G flag left count s ≡ finished count s

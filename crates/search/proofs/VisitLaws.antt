@@ -1,6 +1,6 @@
 -- The visits, one pass at a time.
 use Rattle.std.proofs.Common.{◌≡◌, ℕ, Bool, true, false, List, [], ◌∷◌, length, refl, arith}
-use Rattle.laws.specs.Run.{Run, ok, fault, Popped, pop}
+use Rattle.laws.specs.Run.{ok, fault, pop}
 use Rattle.matching.specs.Graph.{Graph, is_group}
 use Rattle.steps.specs.State.{State, Progress}
 use Rattle.steps.specs.Steps.{is_closing, visit, visit_all, take_node}

@@ -7,6 +7,7 @@ ghost use Rattle.steps.specs.State.{Progress};
 ghost use Rattle.numbers.specs.Answers.{Agrees};
 ghost use Rattle.state.specs.Parts.{state_of, sized, size_of};
 ghost use Rattle.state.specs.Walks.{AnswersBase};
+ghost use Rattle.state.specs.Keeps.{Added, Expanded};
 
 use edges::graph::Graph;
 use expand::free::expand;
@@ -64,7 +65,7 @@ impl<'a> Scratch<'a> {
         w: Node,
     ) -> Result<Option<Node>, Fault>
         requires { self.old ≡ lists.now.labels.size.nodes }
-        ensures said { (at : Progress) → AnswersBase (scan_of g.now v.0 w.0 (state_of lists.now at)) result }
+        ensures said { (at : Progress) → AnswersBase (scan_of g.now v w (state_of lists.now at)) result }
         ensures kept { self.new ≡ self.old }
     {
         let base = lists.scan(g, self.marks, v, w)?;
@@ -80,9 +81,10 @@ impl<'a> Scratch<'a> {
         e: Edge,
     ) -> Result<(), Fault>
         requires { (sized lists.old ≡ size_of g.now) × (self.old ≡ g.now.nodes) }
-        ensures said { (at : Progress) → Agrees (add_group_of g.now base.0 e.0 (state_of lists.old at)) result (state_of lists.new at) }
+        ensures said { (at : Progress) → Agrees (add_group_of g.now base e (state_of lists.old at)) result (state_of lists.new at) }
         ensures size { sized lists.new ≡ sized lists.old }
         ensures kept { self.new ≡ self.old }
+        ensures others { Added lists.old lists.new }
     {
         add_group(g, lists, &mut self.room, base, e)
     }
@@ -96,9 +98,10 @@ impl<'a> Scratch<'a> {
         b: Group,
     ) -> Result<(), Fault>
         requires { (sized lists.old ≡ size_of g.now) × (self.old ≡ g.now.nodes) }
-        ensures said { (at : Progress) → Agrees (expand_top g.now last b.0 (state_of lists.old at)) result (state_of lists.new at) }
+        ensures said { (at : Progress) → Agrees (expand_top g.now last b (state_of lists.old at)) result (state_of lists.new at) }
         ensures size { sized lists.new ≡ sized lists.old }
         ensures kept { self.new ≡ self.old }
+        ensures others { Expanded last lists.old lists.new }
     {
         expand(g, lists, &mut self.nodes, last, b)
     }

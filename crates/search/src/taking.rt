@@ -17,12 +17,13 @@ use state::lists::Lists;
 #[tactic(auto, unfolding(crate::specs::Visits::taken))]
 fn visit_from(g: &Graph, lists: &mut Lists, scratch: &mut Scratch, v: Node) -> Result<bool, Fault>
     requires { (sized lists.old ≡ size_of g.now) × (scratch.old ≡ g.now.nodes) }
-    ensures said { (at : Progress) → is_closing at.phase ≡ false → Visits (taken g.now v.0 (state_of lists.old at)) result lists.new at }
+    ensures said { (at : Progress) → is_closing at.phase ≡ false → Visits (taken g.now v (state_of lists.old at)) result lists.new at }
     ensures size { sized lists.new ≡ sized lists.old }
     ensures room { scratch.new ≡ scratch.old }
+    ensures free { lists.new.forest.free_places ≡ lists.old.forest.free_places }
 {
     let t = lists.top(v)?;
-    let l = lists.label(t.0)?;
+    let l = lists.label(t.number())?;
     must(l == 1)?;
     visit_all(g, lists, scratch, v, g.far_ends(v))
 }
@@ -34,6 +35,7 @@ pub fn take_node(g: &Graph, lists: &mut Lists, scratch: &mut Scratch) -> Result<
     ensures said { (at : Progress) → is_closing at.phase ≡ false → Visits (take_node_of is_group g.now (state_of lists.old at)) result lists.new at }
     ensures size { sized lists.new ≡ sized lists.old }
     ensures room { scratch.new ≡ scratch.old }
+    ensures free { lists.new.forest.free_places ≡ lists.old.forest.free_places }
 {
     let v = lists.take_queued()?;
     visit_from(g, lists, scratch, v)

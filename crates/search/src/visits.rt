@@ -1,5 +1,5 @@
 // Visiting the neighbours of a taken node. The answers say whether the matching was augmented.
-ghost use Rattle.std.specs.Prelude.{if◌then◌else◌, ◌≡◌, false, pos};
+ghost use Rattle.std.specs.Prelude.{if◌then◌else◌, ◌≡◌, ◌/◌, false, pos, eqb};
 ghost use Rattle.laws.specs.Run.{ok};
 ghost use Rattle.matching.specs.Graph.{is_group};
 ghost use Rattle.steps.specs.Ends.{slack_of};
@@ -7,7 +7,8 @@ ghost use Rattle.steps.specs.State.{Progress};
 ghost use Rattle.steps.specs.Steps.{is_closing, join as join_of, use_edge as use_edge_of, pass_edge as pass_edge_of, visit as visit_of, visit_all as visit_all_of};
 ghost use Rattle.numbers.specs.Answers.{Answers};
 ghost use Rattle.state.specs.Parts.{state_of, sized, size_of};
-ghost use Rattle.search.specs.Visits.{Visits};
+ghost use Rattle.search.specs.Visits.{Visits, joins, joins_at};
+ghost use Rattle.state.specs.Keeps.{Relabelled};
 
 use crate::scratch::Scratch;
 use augment::augment_matching;
@@ -29,9 +30,10 @@ fn join(
     e: Edge,
 ) -> Result<bool, Fault>
     requires { (sized lists.old ≡ size_of g.now) × (scratch.old ≡ g.now.nodes) }
-    ensures said { (at : Progress) → Visits (join_of is_group g.now v.0 w.0 e.0 (state_of lists.old at)) result lists.new at }
+    ensures said { (at : Progress) → Visits (join_of is_group g.now v w e (state_of lists.old at)) result lists.new at }
     ensures size { sized lists.new ≡ sized lists.old }
     ensures room { scratch.new ≡ scratch.old }
+    ensures free { lists.new.forest.free_places ≡ lists.old.forest.free_places }
 {
     if let Some(base) = scratch.scan(g, lists, v, w)? {
         scratch.add_group(g, lists, base, e)?;
@@ -52,9 +54,11 @@ fn use_edge(
     p: End,
 ) -> Result<bool, Fault>
     requires { (sized lists.old ≡ size_of g.now) × (scratch.old ≡ g.now.nodes) }
-    ensures said { (at : Progress) → Visits (use_edge_of is_group g.now v.0 met.node.0 p.0 met.group_label met.label (state_of lists.old at)) result lists.new at }
+    ensures said { (at : Progress) → Visits (use_edge_of is_group g.now v met.node p met.group_label met.label (state_of lists.old at)) result lists.new at }
     ensures size { sized lists.new ≡ sized lists.old }
     ensures room { scratch.new ≡ scratch.old }
+    ensures free { lists.new.forest.free_places ≡ lists.old.forest.free_places }
+    ensures others { eqb met.group_label 1 ≡ false → Relabelled lists.old lists.new }
 {
     if met.group_label == 0 {
         lists.label_two(g, met.node, p.beside())?;
@@ -71,7 +75,7 @@ fn use_edge(
 
 // The slack of edge e, which counts as 0 where the edge is allowed.
 fn slack(g: &Graph, lists: &Lists, allowed: bool, e: Edge) -> Result<i64, Fault>
-    ensures { Answers (if allowed then ok (pos 0) else slack_of g.now lists.now.pairing.lists.duals e.0) result }
+    ensures { Answers (if allowed then ok (pos 0) else slack_of g.now lists.now.pairing.lists.duals e) result }
 {
     if allowed { Ok(0) } else { lists.slack(g, e) }
 }
@@ -87,9 +91,11 @@ fn pass_edge(
     p: End,
 ) -> Result<bool, Fault>
     requires { (sized lists.old ≡ size_of g.now) × (scratch.old ≡ g.now.nodes) }
-    ensures said { (at : Progress) → Visits (pass_edge_of is_group g.now v.0 w.0 p.0 (state_of lists.old at)) result lists.new at }
+    ensures said { (at : Progress) → Visits (pass_edge_of is_group g.now v w p (state_of lists.old at)) result lists.new at }
     ensures size { sized lists.new ≡ sized lists.old }
     ensures room { scratch.new ≡ scratch.old }
+    ensures free { lists.new.forest.free_places ≡ lists.old.forest.free_places }
+    ensures others { joins g.now lists.old w (p / 2) ≡ false → Relabelled lists.old lists.new }
 {
     let e = p.edge();
     let allowed = lists.is_allowed(e)?;
@@ -99,8 +105,8 @@ fn pass_edge(
     }
     let now = lists.is_allowed(e)?;
     let t = lists.top(w)?;
-    let group_label = lists.label(t.0)?;
-    let label = lists.label(w.0)?;
+    let group_label = lists.label(t.number())?;
+    let label = lists.label(w.number())?;
     let met = Met {
         node: w,
         group_label,
@@ -123,9 +129,11 @@ fn visit(
     p: End,
 ) -> Result<bool, Fault>
     requires { (sized lists.old ≡ size_of g.now) × (scratch.old ≡ g.now.nodes) }
-    ensures said { (at : Progress) → Visits (visit_of is_group g.now v.0 p.0 (state_of lists.old at)) result lists.new at }
+    ensures said { (at : Progress) → Visits (visit_of is_group g.now v p (state_of lists.old at)) result lists.new at }
     ensures size { sized lists.new ≡ sized lists.old }
     ensures room { scratch.new ≡ scratch.old }
+    ensures free { lists.new.forest.free_places ≡ lists.old.forest.free_places }
+    ensures others { joins_at g.now lists.old v p ≡ false → Relabelled lists.old lists.new }
 {
     let w = g.endpoint(p)?;
     let from = lists.top(v)?;
@@ -146,13 +154,14 @@ pub(crate) fn visit_all(
     row: &[u16],
 ) -> Result<bool, Fault>
     requires { (sized lists.old ≡ size_of g.now) × (scratch.old ≡ g.now.nodes) }
-    ensures said { (at : Progress) → is_closing at.phase ≡ false → Visits (visit_all_of is_group g.now v.0 row.now (state_of lists.old at)) result lists.new at }
+    ensures said { (at : Progress) → is_closing at.phase ≡ false → Visits (visit_all_of is_group g.now v row.now (state_of lists.old at)) result lists.new at }
     ensures size { sized lists.new ≡ sized lists.old }
     ensures room { scratch.new ≡ scratch.old }
+    ensures free { lists.new.forest.free_places ≡ lists.old.forest.free_places }
 {
     let mut left = row;
     while let Some((&p, rest)) = look_on(g, lists, v, left).split_first() {
-        if visit(g, lists, scratch, v, End(p))? {
+        if visit(g, lists, scratch, v, End::of(p))? {
             return Ok(true);
         }
         left = rest;

@@ -36,6 +36,7 @@ fn put_answer(text: &mut Text, site: Site, answer: Answer, mates: &[u16]) -> boo
     ensures done { result ≡ is_done (answer_of answer) }
     ensures text { (duals : List ℤ) → (parents : List ℕ) → Puts (printed (graph_in site.entry) (plan_of answer mates.now duals parents)) text.old text.new }
 {
+    let done = matches!(answer, Answer::Done(_));
     match answer {
         Answer::Done(steps) => text.put_done(
             Plan {
@@ -51,7 +52,7 @@ fn put_answer(text: &mut Text, site: Site, answer: Answer, mates: &[u16]) -> boo
         Answer::Fault(_) => text.put_other(b"FAULT", 0),
         Answer::Refused(cause) => text.put_refusal(cause),
     }
-    matches!(answer, Answer::Done(_))
+    done
 }
 
 // The text of a site's plan. The plan's lists are lent.

@@ -1,6 +1,9 @@
 -- The least of a list by the library's order, what is below the least amount so far, and the last amount.
-use Rattle.std.proofs.Common.{◌≡◌, refl, sym, ap, arith, Bool, true, false, cond, ℤ, pos, take, List, [], ◌∷◌, Option}
+use Rattle.std.proofs.Common.{◌≡◌, refl, sym, ap, arith, Bool, true, false, cond, ℕ, ◌+◌, ◌<◌, ◌≤◌, ℤ, pos, take, drop, List, [], ◌∷◌, Option}
+use Rattle.std.proofs.Common.{length, get_or, add-one}
 use lib.Signed.{lt_z}
+use lib.ListN.{drop_of_length-le, length-take}
+use lib.Seq.{drop-cons, get_or-take}
 use Rattle.std.specs.Int.{int_max}
 use Rattle.std.specs.List.{fold, reduce}
 use Rattle.std.specs.Option.{ok_or}
@@ -8,7 +11,7 @@ use Rattle.std.specs.Ordering.{int_cmp, min_by_ordering}
 use Rattle.std.specs.declared.cmp.Ordering.TheVariants.{Less, Equal, Greater}
 use Rattle.std.proofs.lemmas.Int.{ints, int_max_is}
 use Rattle.laws.specs.Integers.{lesser, greater, least_from}
-use Rattle.laws.specs.Run.{ok}
+use Rattle.laws.specs.Run.{Run, ok}
 use Rattle.numbers.specs.declared.faults.Fault.{Fault}
 use Rattle.numbers.specs.Answers.{Answers}
 use Rattle.matching.specs.Graph.{Graph}
@@ -48,6 +51,21 @@ pub least_told : (ds : List ℤ) (r : Option ℤ) (e : Fault) → r ≡ reduce (
 unfolding least_dual
 least_told [] r e h = rw h refl
 least_told (d ∷ ds) r e h = rw h (ap ok (sym (folded d ds)))
+
+-- one entry after the other of the first n of a list
+module _ (l : List ℤ) (n : ℕ) where
+  pub least_next : {whole : Run ℤ} (d : ℤ) (v : ℕ) → v < n → n ≤ length l → whole ≡ ok (least_from d (drop v (take n l)))
+      → whole ≡ ok (least_from (lesser d (get_or l v (pos 0))) (drop (v + 1) (take n l)))
+  unfolding least_from
+  least_next d v h k e =
+      let m : v < length (take n l) = rw (length-take n l) (omega arith) in
+      rw (← get_or-take n l v (pos 0) h, add-one) (rw (drop-cons (take n l) v (pos 0) m) at e)
+
+  pub least_end : {whole : Run ℤ} (d : ℤ) (v : ℕ) → n ≤ v → whole ≡ ok (least_from d (drop v (take n l))) → ok d ≡ whole
+  unfolding least_from
+  least_end d v h e =
+      let m : length (take n l) ≤ v = rw (length-take n l) (omega arith) in
+      sym (rw (drop_of_length-le (take n l) m) at e)
 
 -- ---- below the least amount so far
 

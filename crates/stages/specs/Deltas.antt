@@ -10,9 +10,9 @@ use Rattle.stages.specs.declared.delta.Delta.{Delta}
 -- an amount of this type
 abbrev pub typed : By → ℤ → Amount
 typed One d = type1 d
-typed (Two e) d = type2 d e.0
-typed (Three e) d = type3 d e.0
-typed (Four b) d = type4 d b.0
+typed (Two e) d = type2 d e
+typed (Three e) d = type3 d e
+typed (Four b) d = type4 d b
 
 abbrev pub amount_of : Delta → Amount
 amount_of d = typed d.by d.amount

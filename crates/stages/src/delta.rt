@@ -29,12 +29,16 @@ pub struct Delta {
     pub by: By,
 }
 
-// Whether d is below the least amount so far.
+// Whether d is below the least amount so far. By a match: the amount is lent, since what holds a number is not copied, and `as_ref` before
+// `is_none_or` would be no plainer.
 #[tactic(auto, using(crate::proofs::Amounts::belows))]
-fn less_than(d: i64, best: Option<Delta>) -> bool
-    ensures { result ≡ less_than_of d (least_of best) }
+fn less_than(d: i64, best: &Option<Delta>) -> bool
+    ensures { result ≡ less_than_of d (least_of best.now) }
 {
-    best.is_none_or(|b| d < b.amount)
+    match best {
+        Some(b) => d < b.amount,
+        None => true,
+    }
 }
 
 // The least of a list that is not empty.
@@ -66,11 +70,11 @@ fn delta_one(g: &Graph, lists: &Lists, flag: bool) -> Result<Option<Delta>, Faul
 #[tactic(auto, unfolding(steps::specs::Adjust::offer2))]
 fn offer_two(g: &Graph, lists: &Lists, e: Edge, best: Option<Delta>) -> Result<Option<Delta>, Fault>
     requires { SmallOr best }
-    ensures said { (at : Progress) → AnswersLeast (offer2 g.now (state_of lists.now at) e.0 (least_of best)) result }
+    ensures said { (at : Progress) → AnswersLeast (offer2 g.now (state_of lists.now at) e (least_of best)) result }
     ensures small { IfOk result SmallOr }
 {
     let d = lists.slack(g, e)?;
-    if less_than(d, best) {
+    if less_than(d, &best) {
         return Ok(Some(Delta {
             amount: d,
             by: By::Two(e),
@@ -88,12 +92,12 @@ fn delta_two_at(
     best: Option<Delta>,
 ) -> Result<Option<Delta>, Fault>
     requires { SmallOr best }
-    ensures said { (at : Progress) → AnswersLeast (delta2_at g.now (state_of lists.now at) v.0 (least_of best)) result }
+    ensures said { (at : Progress) → AnswersLeast (delta2_at g.now (state_of lists.now at) v (least_of best)) result }
     ensures small { IfOk result SmallOr }
 {
     let t = lists.top(v)?;
-    let l = lists.label(t.0)?;
-    let e = lists.best(v.0)?;
+    let l = lists.label(t.number())?;
+    let e = lists.best(v.number())?;
     if l == 0 && !e.is_missing() {
         return offer_two(g, lists, e, best);
     }
@@ -109,13 +113,13 @@ fn offer_three(
     best: Option<Delta>,
 ) -> Result<Option<Delta>, Fault>
     requires { SmallOr best }
-    ensures said { (at : Progress) → AnswersLeast (offer3 g.now (state_of lists.now at) e.0 (least_of best)) result }
+    ensures said { (at : Progress) → AnswersLeast (offer3 g.now (state_of lists.now at) e (least_of best)) result }
     ensures small { IfOk result SmallOr }
 {
     let k = lists.slack(g, e)?;
     must(k.unsigned_abs() % 2 == 0)?;
     let d = k / 2;
-    if less_than(d, best) {
+    if less_than(d, &best) {
         return Ok(Some(Delta {
             amount: d,
             by: By::Three(e),
@@ -133,12 +137,12 @@ fn delta_three_at(
     best: Option<Delta>,
 ) -> Result<Option<Delta>, Fault>
     requires { SmallOr best }
-    ensures said { (at : Progress) → AnswersLeast (delta3_at g.now (state_of lists.now at) b.0 (least_of best)) result }
+    ensures said { (at : Progress) → AnswersLeast (delta3_at g.now (state_of lists.now at) b (least_of best)) result }
     ensures small { IfOk result SmallOr }
 {
     let p = lists.parent(b)?;
-    let l = lists.label(b.0)?;
-    let e = lists.best(b.0)?;
+    let l = lists.label(b.number())?;
+    let e = lists.best(b.number())?;
     if p.is_missing() && l == 1 && !e.is_missing() {
         return offer_three(g, lists, e, best);
     }
@@ -149,15 +153,15 @@ fn delta_three_at(
 #[tactic(auto, unfolding(steps::specs::Adjust::delta4_at))]
 fn delta_four_at(lists: &Lists, b: Group, best: Option<Delta>) -> Result<Option<Delta>, Fault>
     requires { SmallOr best }
-    ensures said { (at : Progress) → AnswersLeast (delta4_at (state_of lists.now at) b.0 (least_of best)) result }
+    ensures said { (at : Progress) → AnswersLeast (delta4_at (state_of lists.now at) b (least_of best)) result }
     ensures small { IfOk result SmallOr }
 {
     if !lists.is_outermost(b)? {
         return Ok(best);
     }
-    let l = lists.label(b.0)?;
-    let d = lists.dual(b.0)?;
-    if l == 2 && less_than(d, best) {
+    let l = lists.label(b.number())?;
+    let d = lists.dual(b.number())?;
+    if l == 2 && less_than(d, &best) {
         return Ok(Some(Delta {
             amount: d,
             by: By::Four(b),
@@ -175,7 +179,7 @@ fn delta_two(g: &Graph, lists: &Lists, best: Option<Delta>) -> Result<Option<Del
 {
     let mut d = best;
     for v in 0..g.nodes() {
-        d = delta_two_at(g, lists, Node(v), d)?;
+        d = delta_two_at(g, lists, Node::of(v), d)?;
     }
     Ok(d)
 }
@@ -189,7 +193,7 @@ fn delta_three(g: &Graph, lists: &Lists, best: Option<Delta>) -> Result<Option<D
 {
     let mut d = best;
     for b in 0..g.numbers() {
-        d = delta_three_at(g, lists, Group(b), d)?;
+        d = delta_three_at(g, lists, Group::of(b), d)?;
     }
     Ok(d)
 }
@@ -203,7 +207,7 @@ fn delta_four(g: &Graph, lists: &Lists, best: Option<Delta>) -> Result<Option<De
 {
     let mut d = best;
     for b in g.nodes()..g.numbers() {
-        d = delta_four_at(lists, Group(b), d)?;
+        d = delta_four_at(lists, Group::of(b), d)?;
     }
     Ok(d)
 }
@@ -239,5 +243,7 @@ pub fn choose(g: &Graph, lists: &Lists, flag: bool) -> Result<Delta, Fault>
     let two = delta_two(g, lists, one)?;
     let three = delta_three(g, lists, two)?;
     let four = delta_four(g, lists, three)?;
-    delta_last(g, lists, four)
+    // Its fields by name: the toolchain builds no proof of a function that hands on a Delta where no `By` is in sight.
+    let Delta { amount, by } = delta_last(g, lists, four)?;
+    Ok(Delta { amount, by })
 }

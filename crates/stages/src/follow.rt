@@ -3,8 +3,9 @@ ghost use Rattle.std.specs.Prelude.{◌≡◌};
 ghost use Rattle.matching.specs.Graph.{edge};
 ghost use Rattle.steps.specs.State.{Progress};
 ghost use Rattle.steps.specs.Adjust.{resume as resume_of, labelled_end as labelled_end_of, follow2, follow3};
-ghost use Rattle.numbers.specs.Answers.{AnswersNode, Agrees};
+ghost use Rattle.numbers.specs.Answers.{Answers, Agrees};
 ghost use Rattle.state.specs.Parts.{state_of, sized, size_of};
+ghost use Rattle.state.specs.Keeps.{ButFollowed, ButQueue, InLabels};
 
 use edges::graph::{EdgeAt, Graph};
 use numbers::faults::{Fault, must};
@@ -15,12 +16,13 @@ use state::lists::Lists;
 #[tactic(auto, unfolding(steps::specs::Adjust::resume))]
 fn resume(g: &Graph, lists: &mut Lists, v: Node) -> Result<(), Fault>
     requires { sized lists.old ≡ size_of g.now }
-    ensures said { (at : Progress) → Agrees (resume_of g.now v.0 (state_of lists.old at)) result (state_of lists.new at) }
+    ensures said { (at : Progress) → Agrees (resume_of g.now v (state_of lists.old at)) result (state_of lists.new at) }
     ensures size { sized lists.new ≡ sized lists.old }
     ensures kids { lists.new.forest.kids ≡ lists.old.forest.kids }
+    ensures others { InLabels lists.old lists.new × ButQueue lists.old.labels lists.new.labels }
 {
     let t = lists.top(v)?;
-    let l = lists.label(t.0)?;
+    let l = lists.label(t.number())?;
     must(l == 1)?;
     lists.enqueue(g, v)
 }
@@ -28,10 +30,10 @@ fn resume(g: &Graph, lists: &mut Lists, v: Node) -> Result<(), Fault>
 // The end of edge x in a label-1 group: the second where the first is free.
 #[tactic(auto, unfolding(steps::specs::Adjust::labelled_end))]
 fn labelled_end(lists: &Lists, x: EdgeAt) -> Result<Node, Fault>
-    ensures { (at : Progress) → AnswersNode (labelled_end_of (state_of lists.now at) (edge x.first.0 x.second.0 x.weight)) result }
+    ensures { (at : Progress) → Answers (labelled_end_of (state_of lists.now at) (edge x.first x.second x.weight)) result }
 {
     let t = lists.top(x.first)?;
-    let l = lists.label(t.0)?;
+    let l = lists.label(t.number())?;
     if l == 0 {
         return Ok(x.second);
     }
@@ -42,9 +44,10 @@ fn labelled_end(lists: &Lists, x: EdgeAt) -> Result<Node, Fault>
 #[tactic(auto, unfolding(steps::specs::Adjust::follow2))]
 pub fn follow_two(g: &Graph, lists: &mut Lists, e: Edge) -> Result<(), Fault>
     requires { sized lists.old ≡ size_of g.now }
-    ensures said { (at : Progress) → Agrees (follow2 g.now e.0 (state_of lists.old at)) result (state_of lists.new at) }
+    ensures said { (at : Progress) → Agrees (follow2 g.now e (state_of lists.old at)) result (state_of lists.new at) }
     ensures size { sized lists.new ≡ sized lists.old }
     ensures kids { lists.new.forest.kids ≡ lists.old.forest.kids }
+    ensures others { InLabels lists.old lists.new × ButFollowed lists.old.labels lists.new.labels }
 {
     lists.put_allowed(e, true)?;
     let x = g.edge(e)?;
@@ -56,9 +59,10 @@ pub fn follow_two(g: &Graph, lists: &mut Lists, e: Edge) -> Result<(), Fault>
 #[tactic(auto, unfolding(steps::specs::Adjust::follow3))]
 pub fn follow_three(g: &Graph, lists: &mut Lists, e: Edge) -> Result<(), Fault>
     requires { sized lists.old ≡ size_of g.now }
-    ensures said { (at : Progress) → Agrees (follow3 g.now e.0 (state_of lists.old at)) result (state_of lists.new at) }
+    ensures said { (at : Progress) → Agrees (follow3 g.now e (state_of lists.old at)) result (state_of lists.new at) }
     ensures size { sized lists.new ≡ sized lists.old }
     ensures kids { lists.new.forest.kids ≡ lists.old.forest.kids }
+    ensures others { InLabels lists.old lists.new × ButFollowed lists.old.labels lists.new.labels }
 {
     lists.put_allowed(e, true)?;
     let x = g.edge(e)?;

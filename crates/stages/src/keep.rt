@@ -4,6 +4,7 @@ ghost use Rattle.steps.specs.State.{Progress};
 ghost use Rattle.steps.specs.Steps.{reach as reach_of, keep_best as keep_best_of, keep_edge as keep_edge_of};
 ghost use Rattle.numbers.specs.Answers.{Agrees};
 ghost use Rattle.state.specs.Parts.{state_of, sized};
+ghost use Rattle.state.specs.Keeps.{ButBest, ButReached, InLabels};
 
 use edges::graph::Graph;
 use numbers::faults::{Fault, must};
@@ -21,23 +22,25 @@ pub struct Met {
 // A node of a label-2 group is reached for the first time.
 #[tactic(auto, unfolding(steps::specs::Steps::reach))]
 pub fn reach(lists: &mut Lists, w: Node, p: End) -> Result<(), Fault>
-    ensures said { (at : Progress) → Agrees (reach_of w.0 p.0 (state_of lists.old at)) result (state_of lists.new at) }
+    ensures said { (at : Progress) → Agrees (reach_of w p (state_of lists.old at)) result (state_of lists.new at) }
     ensures size { sized lists.new ≡ sized lists.old }
     ensures kids { lists.new.forest.kids ≡ lists.old.forest.kids }
+    ensures others { InLabels lists.old lists.new × ButReached lists.old.labels lists.new.labels }
 {
     let t = lists.top(w)?;
-    let l = lists.label(t.0)?;
+    let l = lists.label(t.number())?;
     must(l == 2)?;
-    lists.put_label(w.0, 2)?;
-    lists.put_label_end(w.0, p.beside())
+    lists.put_label(w.number(), 2)?;
+    lists.put_label_end(w.number(), p.beside())
 }
 
 // The edge e of slack k is the best one yet at node or group i.
 #[tactic(auto, unfolding(steps::specs::Steps::keep_best))]
 fn keep_best(g: &Graph, lists: &mut Lists, i: u16, e: Edge, k: i64) -> Result<(), Fault>
-    ensures said { (at : Progress) → Agrees (keep_best_of g.now i e.0 k (state_of lists.old at)) result (state_of lists.new at) }
+    ensures said { (at : Progress) → Agrees (keep_best_of g.now i e k (state_of lists.old at)) result (state_of lists.new at) }
     ensures size { sized lists.new ≡ sized lists.old }
     ensures kids { lists.new.forest.kids ≡ lists.old.forest.kids }
+    ensures others { InLabels lists.old lists.new × ButBest lists.old.labels lists.new.labels }
 {
     let b = lists.best(i)?;
     if b.is_missing() {
@@ -60,15 +63,16 @@ pub fn keep_edge(
     e: Edge,
     k: i64,
 ) -> Result<(), Fault>
-    ensures said { (at : Progress) → Agrees (keep_edge_of g.now v.0 met.node.0 e.0 met.group_label met.label k (state_of lists.old at)) result (state_of lists.new at) }
+    ensures said { (at : Progress) → Agrees (keep_edge_of g.now v met.node e met.group_label met.label k (state_of lists.old at)) result (state_of lists.new at) }
     ensures size { sized lists.new ≡ sized lists.old }
     ensures kids { lists.new.forest.kids ≡ lists.old.forest.kids }
+    ensures others { InLabels lists.old lists.new × ButBest lists.old.labels lists.new.labels }
 {
     if met.group_label == 1 {
         let b = lists.top(v)?;
-        keep_best(g, lists, b.0, e, k)?;
+        keep_best(g, lists, b.number(), e, k)?;
     } else if met.label == 0 {
-        keep_best(g, lists, met.node.0, e, k)?;
+        keep_best(g, lists, met.node.number(), e, k)?;
     }
     Ok(())
 }

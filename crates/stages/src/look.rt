@@ -10,6 +10,7 @@ ghost use Rattle.steps.specs.Steps.{is_closing, keep_best, keep_edge, pass_edge,
 ghost use Rattle.steps.specs.Stores.{with_best};
 ghost use Rattle.state.specs.Parts.{state_of, sized};
 ghost use Rattle.stages.specs.Look.{Turns, Sees, Of, Keen};
+ghost use Rattle.state.specs.Keeps.{ButBest, InLabels};
 
 use crate::keep::Met;
 use edges::graph::Graph;
@@ -28,6 +29,9 @@ enum Seen {
     Rest,
 }
 
+// What the looks are given stands in the clause of each (`Of`, `Keen`): the node's group, and the slack of its best edge. A struct of them would
+// hold the lists, which change between two looks.
+
 // The slack of the best edge at i, where there is one.
 #[tactic(auto, unfolding(crate::specs::Look::best_slack))]
 fn keenness(g: &Graph, lists: &Lists, i: u16) -> Option<i64>
@@ -43,9 +47,9 @@ fn keenness(g: &Graph, lists: &Lists, i: u16) -> Option<i64>
 // An edge of slack k to the free node w.
 #[tactic(auto, using(crate::proofs::Looks::keeps))]
 fn look_free(g: &Graph, lists: &Lists, w: Node, e: Edge, k: i64) -> Seen
-    ensures { (at : Progress) (i : ℕ) → Sees result g.now i e.0 (keep_best g.now w.0 e.0 k) lists.now at }
+    ensures { (at : Progress) (i : ℕ) → Sees result g.now i e (keep_best g.now w e k) lists.now at }
 {
-    match keenness(g, lists, w.0) {
+    match keenness(g, lists, w.number()) {
         Some(d) => if k < d { Seen::Rest } else { Seen::Pass },
         None => Seen::Rest,
     }
@@ -54,9 +58,9 @@ fn look_free(g: &Graph, lists: &Lists, w: Node, e: Edge, k: i64) -> Seen
 // An edge e, of slack k above 0, that is not allowed, from a node of group i; keen is the slack of the group's best edge.
 #[tactic(auto, using(crate::proofs::Looks::keeps), unfolding(steps::specs::Steps::keep_edge))]
 fn look_edge(g: &Graph, lists: &Lists, keen: Option<i64>, met: Met, e: Edge, k: i64) -> Seen
-    requires slack { slack_of g.now lists.now.pairing.lists.duals e.0 ≡ ok k }
-    requires edge { is_missing e.0 ≡ false }
-    ensures { (at : Progress) (v i : ℕ) → Of lists.now v i → Keen g.now lists.now i keen → Sees result g.now i e.0 (keep_edge g.now v met.node.0 e.0 met.group_label met.label k) lists.now at }
+    requires slack { slack_of g.now lists.now.pairing.lists.duals e ≡ ok k }
+    requires edge { is_missing e ≡ false }
+    ensures { (at : Progress) (v i : ℕ) → Of lists.now v i → Keen g.now lists.now i keen → Sees result g.now i e (keep_edge g.now v met.node e met.group_label met.label k) lists.now at }
 {
     if met.group_label == 1 {
         return match keen {
@@ -80,10 +84,10 @@ fn look_over(
     j: Group,
     p: End,
 ) -> Result<Seen, Fault>
-    ensures { (turns : Turns) (at : Progress) (v i : ℕ) → Of lists.now v i → Of lists.now w.0 j.0 → Keen g.now lists.now i keen → IfOk result (λ r. Sees r g.now i (p.0 / 2) (pass_edge turns g.now v w.0 p.0) lists.now at) }
+    ensures { (turns : Turns) (at : Progress) (v i : ℕ) → Of lists.now v i → Of lists.now w j → Keen g.now lists.now i keen → IfOk result (λ r. Sees r g.now i (p / 2) (pass_edge turns g.now v w p) lists.now at) }
 {
-    let group_label = lists.label(j.0)?;
-    let label = lists.label(w.0)?;
+    let group_label = lists.label(j.number())?;
+    let label = lists.label(w.number())?;
     let e = p.edge();
     if lists.is_allowed(e)? {
         return Ok(if group_label < 2 || label == 0 {
@@ -107,7 +111,7 @@ fn look_over(
 // The neighbour at end p of a node of group i.
 #[tactic(auto, unfolding(steps::specs::Steps::visit))]
 fn look(g: &Graph, lists: &Lists, i: Group, keen: Option<i64>, p: End) -> Result<Seen, Fault>
-    ensures { (turns : Turns) (at : Progress) (v : ℕ) → Of lists.now v i.0 → Keen g.now lists.now i.0 keen → IfOk result (λ r. Sees r g.now i.0 (p.0 / 2) (visit_of turns g.now v p.0) lists.now at) }
+    ensures { (turns : Turns) (at : Progress) (v : ℕ) → Of lists.now v i → Keen g.now lists.now i keen → IfOk result (λ r. Sees r g.now i (p / 2) (visit_of turns g.now v p) lists.now at) }
 {
     let w = g.endpoint(p)?;
     let j = lists.top(w)?;
@@ -122,22 +126,23 @@ fn look(g: &Graph, lists: &Lists, i: Group, keen: Option<i64>, p: End) -> Result
 #[tactic(auto, using(crate::proofs::Looks::rests))]
 pub fn look_on<'r>(g: &Graph, lists: &mut Lists, v: Node, row: &'r [u16]) -> &'r [u16]
     ensures end { result.now ≡ drop (length row.now - length result.now) row.now }
-    ensures said { (turns : Turns) (at : Progress) → is_closing at.phase ≡ false → visit_all turns g.now v.0 result.now (state_of lists.new at) ≡ visit_all turns g.now v.0 row.now (state_of lists.old at) }
+    ensures said { (turns : Turns) (at : Progress) → is_closing at.phase ≡ false → visit_all turns g.now v result.now (state_of lists.new at) ≡ visit_all turns g.now v row.now (state_of lists.old at) }
     ensures best { (at : Progress) → state_of lists.new at ≡ with_best lists.new.labels.lists.best (state_of lists.old at) }
     ensures size { sized lists.new ≡ sized lists.old }
     ensures kids { lists.new.forest.kids ≡ lists.old.forest.kids }
+    ensures others { InLabels lists.old lists.new × ButBest lists.old.labels lists.new.labels }
 {
     let Ok(group) = lists.top(v) else {
         return row;
     };
-    let mut keen = keenness(g, lists, group.0);
+    let mut keen = keenness(g, lists, group.number());
     let mut left = row;
     while let Some((&p, rest)) = left.split_first() {
-        let p = End(p);
+        let p = End::of(p);
         match look(g, lists, group, keen, p).unwrap_or(Seen::Rest) {
             Seen::Pass => {}
             Seen::Own(k) => {
-                if lists.put_best(group.0, p.edge()).is_err() {
+                if lists.put_best(group.number(), p.edge()).is_err() {
                     return left;
                 }
                 keen = Some(k);

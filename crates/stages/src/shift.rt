@@ -6,6 +6,7 @@ ghost use Rattle.steps.specs.State.{Progress};
 ghost use Rattle.steps.specs.Adjust.{put_fit_dual as put_fit_dual_of, move_node as move_node_of, move_group as move_group_of, move_duals as move_duals_of};
 ghost use Rattle.numbers.specs.Answers.{Agrees};
 ghost use Rattle.state.specs.Parts.{state_of, sized, size_of};
+ghost use Rattle.state.specs.Keeps.{ButDuals, InPairing};
 
 use edges::graph::Graph;
 use numbers::faults::{Fault, must};
@@ -28,6 +29,7 @@ fn put_fit_dual(lists: &mut Lists, i: u16, d: i64) -> Result<(), Fault>
     ensures said { (at : Progress) → Agrees (put_fit_dual_of i d (state_of lists.old at)) result (state_of lists.new at) }
     ensures size { sized lists.new ≡ sized lists.old }
     ensures kids { lists.new.forest.kids ≡ lists.old.forest.kids }
+    ensures others { InPairing lists.old lists.new × ButDuals lists.old.pairing lists.new.pairing }
 {
     must(fits_dual(d))?;
     lists.put_dual(i, d)
@@ -37,17 +39,18 @@ fn put_fit_dual(lists: &mut Lists, i: u16, d: i64) -> Result<(), Fault>
 #[tactic(auto, unfolding(steps::specs::Adjust::move_node))]
 fn move_node(lists: &mut Lists, delta: i64, v: Node) -> Result<(), Fault>
     requires { nat_abs delta ≤ 18014398509481984 }
-    ensures said { (at : Progress) → Agrees (move_node_of delta v.0 (state_of lists.old at)) result (state_of lists.new at) }
+    ensures said { (at : Progress) → Agrees (move_node_of delta v (state_of lists.old at)) result (state_of lists.new at) }
     ensures size { sized lists.new ≡ sized lists.old }
     ensures kids { lists.new.forest.kids ≡ lists.old.forest.kids }
+    ensures others { InPairing lists.old lists.new × ButDuals lists.old.pairing lists.new.pairing }
 {
     let t = lists.top(v)?;
-    let l = lists.label(t.0)?;
-    let d = lists.dual(v.0)?;
+    let l = lists.label(t.number())?;
+    let d = lists.dual(v.number())?;
     if l == 1 {
-        put_fit_dual(lists, v.0, d - delta)?;
+        put_fit_dual(lists, v.number(), d - delta)?;
     } else if l == 2 {
-        put_fit_dual(lists, v.0, d + delta)?;
+        put_fit_dual(lists, v.number(), d + delta)?;
     }
     Ok(())
 }
@@ -56,19 +59,20 @@ fn move_node(lists: &mut Lists, delta: i64, v: Node) -> Result<(), Fault>
 #[tactic(auto, unfolding(steps::specs::Adjust::move_group))]
 fn move_group(lists: &mut Lists, delta: i64, b: Group) -> Result<(), Fault>
     requires { nat_abs delta ≤ 18014398509481984 }
-    ensures said { (at : Progress) → Agrees (move_group_of delta b.0 (state_of lists.old at)) result (state_of lists.new at) }
+    ensures said { (at : Progress) → Agrees (move_group_of delta b (state_of lists.old at)) result (state_of lists.new at) }
     ensures size { sized lists.new ≡ sized lists.old }
     ensures kids { lists.new.forest.kids ≡ lists.old.forest.kids }
+    ensures others { InPairing lists.old lists.new × ButDuals lists.old.pairing lists.new.pairing }
 {
     if !lists.is_outermost(b)? {
         return Ok(());
     }
-    let t = lists.label(b.0)?;
-    let d = lists.dual(b.0)?;
+    let t = lists.label(b.number())?;
+    let d = lists.dual(b.number())?;
     if t == 1 {
-        put_fit_dual(lists, b.0, d + delta)?;
+        put_fit_dual(lists, b.number(), d + delta)?;
     } else if t == 2 {
-        put_fit_dual(lists, b.0, d - delta)?;
+        put_fit_dual(lists, b.number(), d - delta)?;
     }
     Ok(())
 }
@@ -79,9 +83,10 @@ fn move_nodes(g: &Graph, lists: &mut Lists, delta: i64) -> Result<(), Fault>
     ensures said { (at : Progress) → Agrees (for_range (move_node_of delta) 0 g.now.nodes (state_of lists.old at)) result (state_of lists.new at) }
     ensures size { sized lists.new ≡ sized lists.old }
     ensures kids { lists.new.forest.kids ≡ lists.old.forest.kids }
+    ensures others { InPairing lists.old lists.new × ButDuals lists.old.pairing lists.new.pairing }
 {
     for v in 0..g.nodes() {
-        move_node(lists, delta, Node(v))?;
+        move_node(lists, delta, Node::of(v))?;
     }
     Ok(())
 }
@@ -92,9 +97,10 @@ fn move_groups(g: &Graph, lists: &mut Lists, delta: i64) -> Result<(), Fault>
     ensures said { (at : Progress) → Agrees (for_range (move_group_of delta) g.now.nodes g.now.nodes (state_of lists.old at)) result (state_of lists.new at) }
     ensures size { sized lists.new ≡ sized lists.old }
     ensures kids { lists.new.forest.kids ≡ lists.old.forest.kids }
+    ensures others { InPairing lists.old lists.new × ButDuals lists.old.pairing lists.new.pairing }
 {
     for b in g.nodes()..g.numbers() {
-        move_group(lists, delta, Group(b))?;
+        move_group(lists, delta, Group::of(b))?;
     }
     Ok(())
 }
@@ -106,6 +112,7 @@ pub fn move_duals(g: &Graph, lists: &mut Lists, delta: i64) -> Result<(), Fault>
     ensures said { (at : Progress) → Agrees (move_duals_of g.now delta (state_of lists.old at)) result (state_of lists.new at) }
     ensures size { sized lists.new ≡ sized lists.old }
     ensures kids { lists.new.forest.kids ≡ lists.old.forest.kids }
+    ensures others { InPairing lists.old lists.new × ButDuals lists.old.pairing lists.new.pairing }
 {
     move_nodes(g, lists, delta)?;
     move_groups(g, lists, delta)

@@ -1,5 +1,6 @@
 -- What the lists of the search and the answers of its routines stand for.
 pub mod Parts
+pub mod Keeps
 pub mod Views
 pub mod Walks
 pub mod Kids

@@ -5,15 +5,17 @@ use Rattle.matching.specs.Graph.{Graph, edge_count}
 use Rattle.steps.specs.State.{State, Forest, Labelling, Pairing, Progress}
 use Rattle.steps.specs.Leaves.{leaves}
 
--- a list with room for so many
+-- a list with room for so many, and the places that its entries are the first of
 pub record Stacked : Type 0 where
   pub entries : List ℕ
   pub room : ℕ
+  pub places : List ℕ
 
--- the rows of a pool, and the places that they lie in
+-- the rows of a pool, the places that they lie in, and how many of its places each row has
 pub record Pooled : Type 0 where
   pub rows : List (List ℕ)
   pub places : List ℕ
+  pub counts : List ℕ
 
 -- how many nodes and edges the lists are for
 pub record Size : Type 0 where
@@ -23,16 +25,22 @@ pub record Size : Type 0 where
 abbrev pub size_of : Graph → Size
 size_of G = record { nodes = G.nodes; edges = edge_count G }
 
--- a forest of so many nodes, and the places that the children lie in
+-- a forest of so many nodes; the places that the children lie in and how many each group has, likewise of the ring ends; and the places of the
+-- free numbers
 pub record Trees : Type 0 where
   pub lists : Forest
   pub nodes : ℕ
   pub kids : List ℕ
+  pub counts : List ℕ
+  pub links : List ℕ
+  pub link_counts : List ℕ
+  pub free_places : List ℕ
 
--- a labelling, and how many nodes and edges it is for
+-- a labelling, how many nodes and edges it is for, and the places that the candidates lie in
 pub record Labels : Type 0 where
   pub lists : Labelling
   pub size : Size
+  pub candidates : List ℕ
 
 -- a pairing of so many nodes
 pub record Pairs : Type 0 where

@@ -10,7 +10,7 @@ use Rattle.state.specs.declared.scan.Walk.{Walk as Turn}
 
 -- the base that is met, missing where there is none
 abbrev pub base_of : Option Node → ℕ
-base_of (Some b) = b.0
+base_of (Some b) = b
 base_of None = missing
 
 -- a walk that begins at v and w
@@ -19,7 +19,7 @@ start_from v w marks = record { v = v; w = w; labels = marks; met = false; base 
 
 -- a turn's answer, with these labels marked
 abbrev pub walk_of : Turn → (marks : List ℕ) → Walk
-walk_of k marks = record { v = k.v.0; w = k.w.0; labels = marks; met = is_some k.met; base = base_of k.met }
+walk_of k marks = record { v = k.v; w = k.w; labels = marks; met = is_some k.met; base = base_of k.met }
 
 -- the walk x answers a turn
 abbrev pub Walks : Run Walk → Result Turn Fault → (marks : List ℕ) → Type 0
@@ -28,12 +28,12 @@ Walks x (Err e) marks = x ≡ fault
 
 -- r is the base that is met, and none where it is missing
 abbrev pub Bases : (met r : Option Node) → Type 0
-Bases met (Some b) = (base_of met ≡ b.0) × (is_missing b.0 ≡ false)
+Bases met (Some b) = (base_of met ≡ b) × (is_missing b ≡ false)
 Bases met None = base_of met ≡ missing
 
 -- the run x answers a base, and missing where there is none
 abbrev pub AnswersBase : Run ℕ → Result (Option Node) Fault → Type 0
-AnswersBase x (Ok (Some b)) = (x ≡ ok b.0) × (is_missing b.0 ≡ false)
+AnswersBase x (Ok (Some b)) = (x ≡ ok b) × (is_missing b ≡ false)
 AnswersBase x (Ok None) = x ≡ ok missing
 AnswersBase x (Err e) = x ≡ fault
 

@@ -4,6 +4,7 @@ ghost use Rattle.steps.specs.State.{Progress};
 ghost use Rattle.steps.specs.Steps.{forget};
 ghost use Rattle.state.specs.Forgets.{forgotten};
 ghost use Rattle.state.specs.Parts.{state_of, sized, size_of};
+ghost use Rattle.state.specs.Keeps.{InLabels};
 
 use crate::labelling::Labelling;
 use crate::lists::Lists;
@@ -16,6 +17,7 @@ impl<'a> Pool<'a> {
     pub fn clear_rows(&mut self)
         ensures said { (n : ℕ) → length self.old.rows ≡ 2 * n → self.new.rows ≡ take n self.old.rows ++ replicate n [] }
         ensures size { length self.new.rows ≡ length self.old.rows }
+        ensures places { self.new.places ≡ self.old.places }
     {
         self.counts.fill(0);
     }
@@ -25,6 +27,7 @@ impl<'a> Labelling<'a> {
     pub fn forget(&mut self)
         ensures said { self.new.lists ≡ forgotten self.old.size.nodes self.old.size.edges self.old.lists }
         ensures size { self.new.size ≡ self.old.size }
+        ensures places { self.new.candidates ≡ self.old.candidates }
     {
         self.labels.fill(0);
         self.label_ends.fill(MISSING);
@@ -42,6 +45,7 @@ impl<'a> Lists<'a> {
         ensures said { (at : Progress) → state_of self.new at ≡ forget g.now (state_of self.old at) }
         ensures size { sized self.new ≡ sized self.old }
         ensures kids { self.new.forest.kids ≡ self.old.forest.kids }
+        ensures others { InLabels self.old self.new × (self.new.labels.candidates ≡ self.old.labels.candidates) }
     {
         self.labelling.forget();
     }

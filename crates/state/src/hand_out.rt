@@ -4,13 +4,14 @@ ghost use Rattle.std.specs.Prelude.{◌≡◌, ◌*◌, length};
 use crate::forest::Forest;
 use crate::lists::Lists;
 use crate::pairing::Pairing;
+use crate::pools::copy;
 
 impl<'a> Forest<'a> {
     pub fn copy_parents(&self, to: &mut [u16])
         requires { length to.old ≡ 2 * self.now.nodes }
         ensures { to.new ≡ self.now.lists.parents }
     {
-        to.copy_from_slice(self.parents);
+        copy(self.parents, to);
     }
 }
 
@@ -19,14 +20,14 @@ impl<'a> Pairing<'a> {
         requires { length to.old ≡ self.now.nodes }
         ensures { to.new ≡ self.now.lists.mates }
     {
-        to.copy_from_slice(self.mates);
+        copy(self.mates, to);
     }
 
     pub fn copy_duals(&self, to: &mut [i64])
         requires { length to.old ≡ 2 * self.now.nodes }
         ensures { to.new ≡ self.now.lists.duals }
     {
-        to.copy_from_slice(self.duals);
+        copy(self.duals, to);
     }
 }
 

@@ -6,6 +6,7 @@ ghost use Rattle.steps.specs.State.{Labelling as LabellingOf, Pairing as Pairing
 ghost use Rattle.numbers.specs.Answers.{Agrees};
 ghost use Rattle.state.specs.Parts.{state_of, sized, size_of, whole};
 ghost use Rattle.state.specs.Kids.{Counts, freed};
+ghost use Rattle.state.specs.Keeps.{ButFree, InForest};
 
 use crate::forest::Forest;
 use crate::lists::Lists;
@@ -40,43 +41,44 @@ impl<'a> Pool<'a> {
 impl<'a> Forest<'a> {
     // How many children b has.
     pub fn child_count(&self, b: Group) -> Result<u16, Fault>
-        ensures said { Counts self.now.nodes b.0 self.now.kids (at self.now.lists.children b.0) result }
-        ensures inside { IfOk result (λ m. (b.0 - self.now.nodes) * self.now.nodes + m ≤ length self.now.kids) }
+        ensures said { Counts self.now.nodes b self.now.kids (at self.now.lists.children b) result }
+        ensures inside { IfOk result (λ m. (b - self.now.nodes) * self.now.nodes + m ≤ length self.now.kids) }
     {
-        self.children.count(b.0)
+        self.children.count(b.number())
     }
 
     // The child at place k of b's ring.
     pub fn child_at(&self, b: Group, k: u16) -> Group
-        requires { (b.0 - self.now.nodes) * self.now.nodes + k < length self.now.kids }
-        ensures { result.0 ≡ get_or self.now.kids ((b.0 - self.now.nodes) * self.now.nodes + k) 0 }
+        requires { (b - self.now.nodes) * self.now.nodes + k < length self.now.kids }
+        ensures { result ≡ get_or self.now.kids ((b - self.now.nodes) * self.now.nodes + k) 0 }
     {
-        Group(self.children.place(self.n, b.0, k))
+        Group::of(self.children.place(self.n, b.number(), k))
     }
 
     // Number b goes on the end of the free numbers, of which there are at most n.
     pub fn free_number(&mut self, b: Group) -> Result<(), Fault>
-        ensures said { (l : LabellingOf) (q : PairingOf) (at : Progress) → Agrees (freed self.old.nodes b.0 (whole self.old.lists l q at)) result (whole self.new.lists l q at) }
+        ensures said { (l : LabellingOf) (q : PairingOf) (at : Progress) → Agrees (freed self.old.nodes b (whole self.old.lists l q at)) result (whole self.new.lists l q at) }
         ensures size { self.new.nodes ≡ self.old.nodes }
         ensures kids { self.new.kids ≡ self.old.kids }
+        ensures others { ButFree self.old self.new }
     {
-        self.free.push(b.0)
+        self.free.push(b.number())
     }
 }
 
 impl<'a> Lists<'a> {
     // How many children b has.
     pub fn child_count(&self, b: Group) -> Result<u16, Fault>
-        ensures said { Counts self.now.labels.size.nodes b.0 self.now.forest.kids (at self.now.forest.lists.children b.0) result }
-        ensures inside { IfOk result (λ m. (b.0 - self.now.labels.size.nodes) * self.now.labels.size.nodes + m ≤ length self.now.forest.kids) }
+        ensures said { Counts self.now.labels.size.nodes b self.now.forest.kids (at self.now.forest.lists.children b) result }
+        ensures inside { IfOk result (λ m. (b - self.now.labels.size.nodes) * self.now.labels.size.nodes + m ≤ length self.now.forest.kids) }
     {
         self.forest.child_count(b)
     }
 
     // The child at place k of b's ring.
     pub fn child_at(&self, b: Group, k: u16) -> Group
-        requires { (b.0 - self.now.labels.size.nodes) * self.now.labels.size.nodes + k < length self.now.forest.kids }
-        ensures { result.0 ≡ get_or self.now.forest.kids ((b.0 - self.now.labels.size.nodes) * self.now.labels.size.nodes + k) 0 }
+        requires { (b - self.now.labels.size.nodes) * self.now.labels.size.nodes + k < length self.now.forest.kids }
+        ensures { result ≡ get_or self.now.forest.kids ((b - self.now.labels.size.nodes) * self.now.labels.size.nodes + k) 0 }
     {
         self.forest.child_at(b, k)
     }
@@ -84,9 +86,10 @@ impl<'a> Lists<'a> {
     // Number b goes on the end of the free numbers, of which there are at most n.
     pub fn free_number(&mut self, g: &Graph, b: Group) -> Result<(), Fault>
         requires { sized self.old ≡ size_of g.now }
-        ensures said { (at : Progress) → Agrees (freed g.now.nodes b.0 (state_of self.old at)) result (state_of self.new at) }
+        ensures said { (at : Progress) → Agrees (freed g.now.nodes b (state_of self.old at)) result (state_of self.new at) }
         ensures size { sized self.new ≡ sized self.old }
         ensures kids { self.new.forest.kids ≡ self.old.forest.kids }
+        ensures others { InForest self.old self.new × ButFree self.old.forest self.new.forest }
     {
         self.forest.free_number(b)
     }

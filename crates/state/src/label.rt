@@ -4,6 +4,7 @@ ghost use Rattle.steps.specs.State.{Progress};
 ghost use Rattle.steps.specs.Label.{label1, label2};
 ghost use Rattle.numbers.specs.Answers.{Agrees};
 ghost use Rattle.state.specs.Parts.{state_of, sized, size_of};
+ghost use Rattle.state.specs.Keeps.{ButLabelled, InLabels};
 
 use crate::lists::Lists;
 use edges::graph::Graph;
@@ -15,9 +16,10 @@ impl<'a> Lists<'a> {
     #[tactic(auto, unfolding(steps::specs::Label::label1, steps::specs::Leaves::leaves_after))]
     pub fn label_one(&mut self, g: &Graph, w: Node, p: End) -> Result<(), Fault>
         requires { sized self.old ≡ size_of g.now }
-        ensures said { (at : Progress) → Agrees (label1 g.now w.0 p.0 (state_of self.old at)) result (state_of self.new at) }
+        ensures said { (at : Progress) → Agrees (label1 g.now w p (state_of self.old at)) result (state_of self.new at) }
         ensures size { sized self.new ≡ sized self.old }
         ensures kids { self.new.forest.kids ≡ self.old.forest.kids }
+        ensures others { InLabels self.old self.new × ButLabelled self.old.labels self.new.labels }
     {
         let b = self.forest.top(w)?;
         self.labelling.mark(w, b, 1, p)?;
@@ -28,14 +30,15 @@ impl<'a> Lists<'a> {
     #[tactic(auto, unfolding(steps::specs::Label::label2))]
     pub fn label_two(&mut self, g: &Graph, w: Node, p: End) -> Result<(), Fault>
         requires { sized self.old ≡ size_of g.now }
-        ensures said { (at : Progress) → Agrees (label2 g.now w.0 p.0 (state_of self.old at)) result (state_of self.new at) }
+        ensures said { (at : Progress) → Agrees (label2 g.now w p (state_of self.old at)) result (state_of self.new at) }
         ensures size { sized self.new ≡ sized self.old }
         ensures kids { self.new.forest.kids ≡ self.old.forest.kids }
+        ensures others { InLabels self.old self.new × ButLabelled self.old.labels self.new.labels }
     {
         let b = self.forest.top(w)?;
         self.labelling.mark(w, b, 2, p)?;
         let m = self.base_mate(b)?;
-        present(m.0)?;
+        present(m.number())?;
         let u = g.endpoint(m)?;
         self.label_one(g, u, m.beside())
     }

@@ -18,15 +18,15 @@ use numbers::{Group, MISSING};
 impl<'a> Forest<'a> {
     #[tactic(auto, using(crate::proofs::OuterLaws::outer), unfolding(steps::specs::Adjust::is_outermost))]
     pub fn is_outermost(&self, b: Group) -> Result<bool, Fault>
-        ensures said { (l : LabellingOf) (q : PairingOf) (at : Progress) → Answers (is_outermost_of (whole self.now.lists l q at) b.0) result }
-        ensures near { IfOk result (λ o. b.0 < 2 * self.now.nodes) }
-        ensures there { b.0 < 2 * self.now.nodes → IsOk result }
+        ensures said { (l : LabellingOf) (q : PairingOf) (at : Progress) → Answers (is_outermost_of (whole self.now.lists l q at) b) result }
+        ensures near { IfOk result (λ o. b < 2 * self.now.nodes) }
+        ensures there { b < 2 * self.now.nodes → IsOk result }
     {
-        let base = read(self.bases, b.0)?;
+        let base = read(self.bases, b.number())?;
         if base == MISSING {
             return Ok(false);
         }
-        let p = read(self.parents, b.0)?;
+        let p = read(self.parents, b.number())?;
         Ok(p == MISSING)
     }
 }
@@ -35,10 +35,10 @@ impl<'a> Labelling<'a> {
     // That b has a label: the type's invariant says so, and it costs nothing to tell.
     #[tactic(auto, using(crate::proofs::OuterLaws::there))]
     pub fn holds(&self, b: Group)
-        requires { b.0 < 2 * self.now.size.nodes }
-        ensures { at_of self.now.lists.labels b.0 ≡ ok (get_or self.now.lists.labels b.0 0) }
+        requires { b < 2 * self.now.size.nodes }
+        ensures { at_of self.now.lists.labels b ≡ ok (get_or self.now.lists.labels b 0) }
     {
-        prove!((b.0 as usize) < self.labels.len());
+        prove!((b.number() as usize) < self.labels.len());
     }
 }
 
@@ -46,19 +46,19 @@ impl<'a> Pairing<'a> {
     // The same: b has a dual.
     #[tactic(auto, using(crate::proofs::OuterLaws::there))]
     pub fn holds(&self, b: Group)
-        requires { b.0 < 2 * self.now.nodes }
-        ensures { at_of self.now.lists.duals b.0 ≡ ok (get_or self.now.lists.duals b.0 (pos 0)) }
+        requires { b < 2 * self.now.nodes }
+        ensures { at_of self.now.lists.duals b ≡ ok (get_or self.now.lists.duals b (pos 0)) }
     {
-        prove!((b.0 as usize) < self.duals.len());
+        prove!((b.number() as usize) < self.duals.len());
     }
 }
 
 impl<'a> Lists<'a> {
     // b is a group in use, and outermost. If so or not, it has a label and a dual, which need not be read to know.
     pub fn is_outermost(&self, b: Group) -> Result<bool, Fault>
-        ensures said { (at : Progress) → Answers (is_outermost_of (state_of self.now at) b.0) result }
-        ensures stands { IfOk result (λ o. Stands self.now b.0) }
-        ensures there { b.0 < 2 * self.now.labels.size.nodes → IsOk result }
+        ensures said { (at : Progress) → Answers (is_outermost_of (state_of self.now at) b) result }
+        ensures stands { IfOk result (λ o. Stands self.now b) }
+        ensures there { b < 2 * self.now.labels.size.nodes → IsOk result }
     {
         let outermost = self.forest.is_outermost(b)?;
         self.labelling.holds(b);

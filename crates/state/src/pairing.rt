@@ -1,12 +1,14 @@
 // The pairing: mates and duals.
-ghost use Rattle.std.specs.Prelude.{◌≡◌, ◌*◌, ◌≤◌, ◌<◌, nat_abs, length};
+ghost use Rattle.std.specs.Prelude.{ℕ, ◌≡◌, ◌*◌, ◌≤◌, ◌<◌, nat_abs, length};
 ghost use Rattle.std.specs.Result.{IfOk};
 ghost use Rattle.laws.specs.Run.{at};
 ghost use Rattle.steps.specs.State.{Forest as ForestOf, Labelling as LabellingOf, Progress};
 ghost use Rattle.steps.specs.Stores.{put_mate, put_dual};
 ghost use Rattle.steps.specs.Ends.{slack_of, tighter as tighter_of};
-ghost use Rattle.numbers.specs.Answers.{Answers, AnswersEnd, Agrees};
+ghost use Rattle.numbers.specs.Answers.{Answers, Agrees};
 ghost use Rattle.state.specs.Parts.{whole};
+ghost use Rattle.state.specs.Keeps.{ButDuals, ButMates};
+ghost use Rattle.numbers.specs.Near.{Near};
 
 use edges::graph::Graph;
 use numbers::faults::{Fault, read, store};
@@ -34,10 +36,10 @@ impl<'a> Model for Pairing<'a> {
 impl<'a> Pairing<'a> {
     // The end at the mate of node v, which may be missing.
     pub fn mate(&self, v: Node) -> Result<End, Fault>
-        ensures { AnswersEnd (at self.now.lists.mates v.0) result }
+        ensures { Answers (at self.now.lists.mates v) result }
     {
-        let p = read(self.mates, v.0)?;
-        Ok(End(p))
+        let p = read(self.mates, v.number())?;
+        Ok(End::of(p))
     }
 
     // The dual of a node or group.
@@ -49,23 +51,26 @@ impl<'a> Pairing<'a> {
     }
 
     pub fn set_mate(&mut self, v: Node, p: End) -> Result<(), Fault>
-        ensures said { (f : ForestOf) (l : LabellingOf) (at : Progress) → Agrees (put_mate v.0 p.0 (whole f l self.old.lists at)) result (whole f l self.new.lists at) }
+        ensures said { (f : ForestOf) (l : LabellingOf) (at : Progress) → Agrees (put_mate v p (whole f l self.old.lists at)) result (whole f l self.new.lists at) }
         ensures size { self.new.nodes ≡ self.old.nodes }
+        ensures others { ButMates self.old self.new }
     {
-        store(self.mates, v.0, p.0)
+        store(self.mates, v.number(), p.number())
     }
 
     pub fn set_dual(&mut self, i: u16, d: i64) -> Result<(), Fault>
         requires { nat_abs d ≤ 4503599627370496 }
         ensures said { (f : ForestOf) (l : LabellingOf) (at : Progress) → Agrees (put_dual i d (whole f l self.old.lists at)) result (whole f l self.new.lists at) }
         ensures size { self.new.nodes ≡ self.old.nodes }
+        ensures others { ButDuals self.old self.new }
+        ensures stays { (k : ℕ) → nat_abs d ≤ k → Near k self.old.lists.duals → Near k self.new.lists.duals }
     {
         store(self.duals, i, d)
     }
 
     // The two duals at edge e less twice its weight.
     pub fn slack(&self, g: &Graph, e: Edge) -> Result<i64, Fault>
-        ensures said { Answers (slack_of g.now self.now.lists.duals e.0) result }
+        ensures said { Answers (slack_of g.now self.now.lists.duals e) result }
         ensures near { IfOk result (λ k. nat_abs k ≤ 18014398509481984) }
     {
         g.slack(self.duals, e)
@@ -73,7 +78,7 @@ impl<'a> Pairing<'a> {
 
     // Whether the slack of edge d is below that of edge e.
     pub fn tighter(&self, g: &Graph, d: Edge, e: Edge) -> Result<bool, Fault>
-        ensures { Answers (tighter_of g.now self.now.lists.duals d.0 e.0) result }
+        ensures { Answers (tighter_of g.now self.now.lists.duals d e) result }
     {
         g.tighter(self.duals, d, e)
     }

@@ -3,7 +3,7 @@ ghost use Rattle.std.specs.Prelude.{◌≡◌, ◌≤◌, ◌<◌, length};
 ghost use Rattle.std.specs.Result.{IfOk};
 ghost use Rattle.laws.specs.Run.{position};
 ghost use Rattle.steps.specs.Ring.{around as around_of, link_end as link_end_of};
-ghost use Rattle.numbers.specs.Answers.{Answers, AnswersEnd};
+ghost use Rattle.numbers.specs.Answers.{Answers};
 
 use numbers::faults::{Fault, read};
 use numbers::{End, Group};
@@ -25,26 +25,26 @@ pub fn around(forward: bool, len: u16, j: u16) -> u16
 // The ring end that is used at place i, seen in the direction of the walk: the definition's parameter as well.
 #[tactic(auto, unfolding(steps::specs::Ring::link_end))]
 pub fn link_end(forward: bool, ends: &[u16], i: u16) -> Result<End, Fault>
-    ensures { AnswersEnd (link_end_of forward ends.now i) result }
+    ensures { Answers (link_end_of forward ends.now i) result }
 {
     if forward {
         let p = read(ends, i)?;
-        return Ok(End(p));
+        return Ok(End::of(p));
     }
     if i == 0 {
         return Err(Fault);
     }
     let p = read(ends, i - 1)?;
-    Ok(End(p).beside())
+    Ok(End::of(p).beside())
 }
 
 // The place of t among the children.
 #[tactic(auto, unfolding(laws::specs::Run::position_from))]
 pub fn place_of(kids: &[u16], t: Group) -> Result<u16, Fault>
     requires { length kids.now ≤ 65535 }
-    ensures said { Answers (position t.0 kids.now) result }
+    ensures said { Answers (position t kids.now) result }
     ensures near { IfOk result (λ i. i < length kids.now) }
 {
-    let i = kids.iter().position(|&kid| kid == t.0).ok_or(Fault)?;
+    let i = kids.iter().position(|&kid| kid == t.number()).ok_or(Fault)?;
     Ok(i as u16)
 }

@@ -4,7 +4,7 @@ ghost use Rattle.laws.specs.Run.{ok, at, put, push as push_of, pop as pop_of};
 ghost use Rattle.numbers.specs.Pools.{pooled, PoolFits};
 ghost use Rattle.steps.specs.Ring.{rotate};
 ghost use Rattle.steps.specs.Leaves.{leaves as leaves_of};
-ghost use Rattle.numbers.specs.Answers.{AnswersRow, RowFits, Agrees};
+ghost use Rattle.numbers.specs.Answers.{AnswersRow, RowFits, Agrees, Kept};
 ghost use Rattle.state.specs.Pops.{Pops, is_nil};
 
 use numbers::faults::Fault;
@@ -22,7 +22,7 @@ impl<'a> Model for Stack<'a> {
 
     ghost Value = { Stacked };
 
-    ghost view = { λ s. record { entries = take s.len s.items.now; room = length s.items.now } };
+    ghost view = { λ s. record { entries = take s.len s.items.now; room = length s.items.now; places = s.items.now } };
 
     ghost invariant = { λ s. (s.len ≤ length s.items.now) × (length s.items.now < 2 ^ 16) };
 }
@@ -50,6 +50,8 @@ impl<'a> Stack<'a> {
     pub fn pop(&mut self) -> Result<u16, Fault>
         ensures said { Pops (pop_of self.old.entries) result self.new.entries }
         ensures room { self.new.room ≡ self.old.room }
+        ensures places { self.new.places ≡ self.old.places }
+        ensures kept { Kept result self.old self.new }
     {
         if self.len == 0 {
             return Err(Fault);
@@ -82,6 +84,7 @@ impl<'a> Stack<'a> {
         Stack { items, len }
     }
 
+    // A method of its own, as grouping's paths and links have: a trait for one line would be no shorter.
     pub fn clear(&mut self)
         ensures { (self.new.entries ≡ []) × (self.new.room ≡ self.old.room) }
     {
@@ -103,7 +106,7 @@ impl<'a> Model for Pool<'a> {
 
     ghost Value = { Pooled };
 
-    ghost view = { λ s. record { rows = pooled s.n s.counts.now s.places.now; places = s.places.now } };
+    ghost view = { λ s. record { rows = pooled s.n s.counts.now s.places.now; places = s.places.now; counts = s.counts.now } };
 
     ghost invariant = { λ s. PoolFits s.n s.counts.now s.places.now };
 }
@@ -155,6 +158,7 @@ impl<'a> Pool<'a> {
     pub fn rotate_row(&mut self, b: u16, i: u16)
         ensures said { (r : List ℕ) → at self.old.rows b ≡ ok r → put self.old.rows b (rotate i r) ≡ ok self.new.rows }
         ensures size { length self.new.rows ≡ length self.old.rows }
+        ensures counts { self.new.counts ≡ self.old.counts }
     {
         if b < self.n {
             return;
@@ -191,23 +195,36 @@ impl<'a> Pool<'a> {
     }
 }
 
+// A list becomes a copy of another. Entry by entry: the slice's copy_from_slice is compiled to a call of memmove, which the C library
+// would have to bring.
+pub fn copy<T: Copy>(from: &[T], to: &mut [T])
+    requires { length from.now ≡ length to.old }
+    ensures { to.new ≡ from.now }
+{
+    for (i, x) in to.iter_mut().enumerate() {
+        *x = from[i];
+    }
+}
+
 // A list's places from one on become these.
 pub fn write_at(list: &mut [u16], from: usize, items: &[u16])
     requires { from + length items.now ≤ length list.old }
     ensures { list.new ≡ take from list.old ++ (items.now ++ drop (from + length items.now) list.old) }
 {
     let to = from + items.len();
-    list[from..to].copy_from_slice(items);
+    copy(items, &mut list[from..to]);
 }
 
-// A part of a list with its place k first.
+// A part of a list with its place k first: both parts in reverse order, and then the whole. The slice's rotate_left would call memmove.
 #[tactic(auto, unfolding(steps::specs::Ring::rotate))]
 pub fn rotate_at(list: &mut [u16], from: usize, count: usize, k: usize)
     requires { (from + count ≤ length list.old) × (k ≤ count) }
     ensures { list.new ≡ take from list.old ++ (rotate k (take count (drop from list.old)) ++ drop (from + count) list.old) }
 {
-    let to = from + count;
-    list[from..to].rotate_left(k);
+    let part = &mut list[from..from + count];
+    part[..k].reverse();
+    part[k..].reverse();
+    part.reverse();
 }
 
 // The nodes of b go on the end of out.

@@ -4,7 +4,8 @@ ghost use Rattle.laws.specs.Run.{pop as pop_of};
 ghost use Rattle.steps.specs.State.{Progress};
 ghost use Rattle.steps.specs.Stores.{with_queue};
 ghost use Rattle.state.specs.Parts.{state_of, sized};
-ghost use Rattle.state.specs.Pops.{PopsNode, is_nil};
+ghost use Rattle.state.specs.Pops.{Pops, is_nil};
+ghost use Rattle.state.specs.Keeps.{ButQueue, InLabels};
 
 use crate::lists::Lists;
 use numbers::Node;
@@ -18,9 +19,10 @@ impl<'a> Lists<'a> {
     }
 
     pub fn take_queued(&mut self) -> Result<Node, Fault>
-        ensures said { PopsNode (pop_of self.old.labels.lists.queue) result self.new.labels.lists.queue }
+        ensures said { Pops (pop_of self.old.labels.lists.queue) result self.new.labels.lists.queue }
         ensures rest { (at : Progress) → state_of self.new at ≡ with_queue self.new.labels.lists.queue (state_of self.old at) }
         ensures size { sized self.new ≡ sized self.old }
+        ensures others { InLabels self.old self.new × ButQueue self.old.labels self.new.labels }
     {
         self.labelling.take_queued()
     }

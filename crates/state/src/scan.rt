@@ -5,7 +5,7 @@ ghost use Rattle.std.specs.Option.{is_some};
 ghost use Rattle.matching.specs.Graph.{missing, is_missing};
 ghost use Rattle.steps.specs.State.{Progress};
 ghost use Rattle.steps.specs.Scan.{is_mark, over_label2, step_back as step_back_of, pass_on as pass_on_of, walk_move as walk_move_of, scan as scan_of};
-ghost use Rattle.numbers.specs.Answers.{AnswersNode};
+ghost use Rattle.numbers.specs.Answers.{Answers};
 ghost use Rattle.state.specs.Parts.{state_of};
 ghost use Rattle.state.specs.Walks.{AnswersBase, Bases, walk_of, stopped, Walks};
 
@@ -33,23 +33,23 @@ pub struct Walk {
 }
 
 // A mark is met, or both paths have ended.
-fn ended(k: Walk) -> bool
-    ensures { result ≡ stopped (is_some k.met) k.v.0 k.w.0 }
+fn ended(k: &Walk) -> bool
+    ensures { result ≡ stopped (is_some k.now.met) k.now.v k.now.w }
 {
     k.met.is_some() || (k.v.is_missing() && k.w.is_missing())
 }
 
 // The base that the walk has met, where it is not missing.
-fn base_met(k: Walk) -> Option<Node>
-    ensures { Bases k.met result }
+fn base_met(k: &Walk) -> Option<Node>
+    ensures { Bases k.now.met result }
 {
     k.met.filter(|base| !base.is_missing())
 }
 
 // The walk after a step back to x: the other path has the next turn unless it has ended.
 fn next_turn(w: Node, x: Node) -> Walk
-    ensures v { result.v.0 ≡ (if is_missing w.0 then x.0 else w.0) }
-    ensures w { result.w.0 ≡ (if is_missing w.0 then missing else x.0) }
+    ensures v { result.v ≡ (if is_missing w then x else w) }
+    ensures w { result.w ≡ (if is_missing w then missing else x) }
     ensures none { result.met ≡ None }
 {
     if w.is_missing() {
@@ -71,21 +71,21 @@ impl<'a> Lists<'a> {
     // From the end e through which a label-1 group was reached, over the label-2 group there, to a node of the group before.
     #[tactic(auto, unfolding(steps::specs::Scan::over_label2))]
     pub fn over_label_two(&self, g: &Graph, marks: &[u16], e: End) -> Result<Node, Fault>
-        ensures { (at : Progress) → AnswersNode (over_label2 g.now (state_of self.now at) marks.now e.0) result }
+        ensures { (at : Progress) → Answers (over_label2 g.now (state_of self.now at) marks.now e) result }
     {
         let u = g.endpoint(e)?;
         let t = self.forest.top(u)?;
-        let l = read(marks, t.0)?;
+        let l = read(marks, t.number())?;
         must(l == 2)?;
         let f = self.labelling.label_end(t)?;
-        present(f.0)?;
+        present(f.number())?;
         g.endpoint(f)
     }
 
     // One step back from the label-1 group b; missing at a root.
     #[tactic(auto, unfolding(steps::specs::Scan::step_back))]
     pub fn step_back(&self, g: &Graph, marks: &[u16], b: Group) -> Result<Node, Fault>
-        ensures { (at : Progress) → AnswersNode (step_back_of g.now (state_of self.now at) marks.now b.0) result }
+        ensures { (at : Progress) → Answers (step_back_of g.now (state_of self.now at) marks.now b) result }
     {
         let e = self.labelling.label_end(b)?;
         let m = self.base_mate(b)?;
@@ -98,24 +98,24 @@ impl<'a> Lists<'a> {
 
     // Group b is marked, and its path goes one step back.
     #[tactic(auto, unfolding(steps::specs::Scan::pass_on))]
-    pub fn pass_on(&self, g: &Graph, marks: &mut [u16], b: Group, k: Walk) -> Result<Walk, Fault>
-        ensures { (at : Progress) → Walks (pass_on_of g.now (state_of self.now at) b.0 (walk_of k marks.old)) result marks.new }
+    pub fn pass_on(&self, g: &Graph, marks: &mut [u16], b: Group, k: &Walk) -> Result<Walk, Fault>
+        ensures { (at : Progress) → Walks (pass_on_of g.now (state_of self.now at) b (walk_of k.now marks.old)) result marks.new }
     {
-        let l = read(marks, b.0)?;
+        let l = read(marks, b.number())?;
         must(l == 1)?;
-        store(marks, b.0, 1 + MARK)?;
+        store(marks, b.number(), 1 + MARK)?;
         let x = self.step_back(g, marks, b)?;
         Ok(next_turn(k.w, x))
     }
 
     // The turn of the path that stands at v.
     #[tactic(auto, unfolding(steps::specs::Scan::walk_move, steps::specs::Scan::meet))]
-    pub fn walk_move(&self, g: &Graph, marks: &mut [u16], k: Walk) -> Result<Walk, Fault>
-        ensures { (at : Progress) → Walks (walk_move_of g.now (state_of self.now at) (walk_of k marks.old)) result marks.new }
+    pub fn walk_move(&self, g: &Graph, marks: &mut [u16], k: &Walk) -> Result<Walk, Fault>
+        ensures { (at : Progress) → Walks (walk_move_of g.now (state_of self.now at) (walk_of k.now marks.old)) result marks.new }
     {
-        present(k.v.0)?;
+        present(k.v.number())?;
         let b = self.forest.top(k.v)?;
-        let l = read(marks, b.0)?;
+        let l = read(marks, b.number())?;
         if is_marked(l) {
             let base = self.forest.base(b)?;
             return Ok(Walk {
@@ -137,7 +137,7 @@ impl<'a> Lists<'a> {
         b: Node,
     ) -> Result<Option<Node>, Fault>
         requires { length marks.old ≡ 2 * self.now.labels.size.nodes }
-        ensures { (at : Progress) → AnswersBase (scan_of g.now a.0 b.0 (state_of self.now at)) result }
+        ensures { (at : Progress) → AnswersBase (scan_of g.now a b (state_of self.now at)) result }
     {
         self.labelling.copy_labels(marks);
         let mut k = Walk {
@@ -146,12 +146,12 @@ impl<'a> Lists<'a> {
             met: None,
         };
         for _ in 0..g.numbers() {
-            if ended(k) {
-                return Ok(base_met(k));
+            if ended(&k) {
+                return Ok(base_met(&k));
             }
-            k = self.walk_move(g, marks, k)?;
+            k = self.walk_move(g, marks, &k)?;
         }
-        must(ended(k))?;
-        Ok(base_met(k))
+        must(ended(&k))?;
+        Ok(base_met(&k))
     }
 }

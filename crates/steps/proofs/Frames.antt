@@ -1,25 +1,26 @@
 -- Frames: the routines that store labels, best edges, allowed edges, the queue, duals or the phase leave the forest and the mates as
 -- they were. Said once for any fact I of a forest and mates: where I holds of a state, it holds of what the routine makes of it.
-use mathlib.Core.Bool.{Bool, true, ◌&&◌}
-use mathlib.Core.List.{List}
+use mathlib.Core.Bool.{Bool, true, not, ◌&&◌}
+use mathlib.Core.List.{List, [], map}
 use Prim.Native.Nat.{ℕ, ◌*◌, ◌/◌}
 use lib.Dec.{eqb, leb}
 use lib.IntN.{ℤ, pos, nat_abs, ◌+ℤ◌, ◌-ℤ◌}
 use lib.Signed.{lt_z}
 use lib.ListN.{length}
-use Rattle.laws.specs.Run.{must, at, put, push}
-use Rattle.laws.proofs.Kept.{Kept, kept, kept_bind, kept_only_if, kept_for_range}
+use Rattle.laws.specs.Run.{must, for_each, at, put, push, position}
+use Rattle.laws.proofs.Kept.{Kept, kept, kept_bind, kept_only_if, kept_for_each, kept_for_range, kept_while}
 use Rattle.laws.proofs.Keeping.{skip, either_way}
-use Rattle.matching.specs.Graph.{Graph, missing, is_missing, beside}
+use Rattle.matching.specs.Graph.{Graph, missing, is_missing, is_odd, beside}
 use Rattle.matching.specs.Certificate.{max_dual}
 use Rattle.steps.specs.Ends.{present, endpoint, slack_of}
 use Rattle.steps.specs.State.{State, Forest}
 use Rattle.steps.specs.Stores.{put_label, put_label_end, put_best, put_best_list, put_allowed, put_dual}
-use Rattle.steps.specs.Leaves.{leaves_after}
+use Rattle.steps.specs.Leaves.{leaves_after, leaves_of}
 use Rattle.steps.specs.Label.{enqueue, mark, base_mate, label1, label2}
-use Rattle.steps.specs.Add.{settle}
+use Rattle.steps.specs.Add.{Link, settle, Gathered, consider_child, gather, tightest, best_edges}
 use Rattle.steps.specs.Ring.{around, link_end}
-use Rattle.steps.specs.Expand.{Relabel, unlabel, relabel_move, relabel_base, relabel_from}
+use Rattle.steps.specs.Expand.{Relabel, unlabel, relabel_move, relabel_base, Onward, onward_goes, first_labelled, relabel_from, relabel_reached}
+use Rattle.steps.specs.Expand.{onward_move, relabel_ring}
 use Rattle.steps.specs.Adjust.{is_outermost, put_fit_dual, move_node, move_group, move_duals, resume, labelled_end, follow2, follow3}
 use Rattle.steps.specs.Steps.{forget, root_at, open_stage, reach, keep_best, keep_edge}
 
@@ -72,13 +73,26 @@ module _ (I : Forest → List ℕ → Type 0) where
       skip (at s.forest.tops w) _ (λ b. kept_bind (mark_keeps w b 2 p s h) (λ s h. skip (base_mate s b) _ (λ m. skip (present m) _ (λ m.
       skip (endpoint G m) _ (λ u. label1_keeps G u (beside m) s h)))))
 
-  -- ---- a new group's label and dual
+  -- ---- a new group's labels and best edges
 
   pub settle_keeps : (new first : ℕ) (s : State) → Of I s → Kept (Of I) (settle new first s)
   unfolding settle
   settle_keeps new first s h =
       skip (at s.labelling.labels first) _ (λ l. skip (must (eqb l 1)) _ (λ u. kept_bind (label_keeps new 1 s h) (λ s h.
       skip (at s.labelling.label_ends first) _ (λ e. kept_bind (end_keeps new e s h) (λ s h. dual_keeps new (pos 0) s h)))))
+
+  gather_keeps : (G : Graph) (new c : ℕ) (k : Gathered) → Of I k.state → Kept (λ k. Of I k.state) (gather G new c k)
+  unfolding gather
+  gather_keeps G new c k h =
+      skip (at k.state.labelling.best_lists c) _ (λ own. skip (consider_child G k.state new c own k.links) _ (λ links.
+      kept_bind (list_keeps c [] k.state h) (λ s h. kept_bind (best_keeps c missing s h) (λ s h. kept h))))
+
+  pub best_edges_keep : (G : Graph) (new : ℕ) (kids : List ℕ) (s : State) → Of I s → Kept (Of I) (best_edges G new kids s)
+  unfolding best_edges
+  best_edges_keep G new kids s h =
+      kept_bind (kept_for_each {I = λ k. Of I k.state} (λ c k h. gather_keeps G new c k h) kids h) (λ k h.
+      kept_bind (list_keeps new (map (λ (x : Link). x.edge) k.links) k.state h) (λ s h.
+      skip (for_each (tightest G s.pairing.duals) (map (λ (x : Link). x.edge) k.links) missing) _ (λ best. best_keeps new best s h)))
 
   -- ---- labels anew in a ring that is opened
 
@@ -107,6 +121,30 @@ module _ (I : Forest → List ℕ → Type 0) where
       skip (at s.labelling.labels v) _ (λ l. skip (must (eqb l 2)) _ (λ u. skip (at s.forest.tops v) _ (λ t. skip (must (eqb t c)) _ (λ u.
       kept_bind (label_keeps v 0 s h) (λ s h. skip (base_mate s c) _ (λ m. skip (present m) _ (λ m. skip (endpoint G m) _ (λ u.
       kept_bind (label_keeps u 0 s h) (λ s h. skip (at s.labelling.label_ends v) _ (λ p. label2_keeps G v p s h))))))))))
+
+  relabel_reached_keeps : (G : Graph) (c : ℕ) (s : State) → Of I s → Kept (Of I) (relabel_reached G c s)
+  unfolding relabel_reached
+  relabel_reached_keeps G c s h =
+      skip (leaves_of G s c) _ (λ vs. skip (first_labelled s 0 vs) _ (λ v. skip (at s.labelling.labels v) _ (λ l.
+      kept_only_if (not (eqb l 0)) (relabel_from G c v) s (λ t. relabel_from_keeps G c v s h) h)))
+
+  onward_move_keeps : (G : Graph) (b : ℕ) (forward : Bool) (k : Onward) → Of I k.state → Kept (λ k. Of I k.state) (onward_move G b forward k)
+  unfolding onward_move
+  onward_move_keeps G b forward k h =
+      skip (at k.state.forest.children b) _ (λ kids. skip (at kids k.place) _ (λ c. skip (at k.state.labelling.labels c) _ (λ l.
+      kept_bind (kept_only_if (not (eqb l 1)) (relabel_reached G c) k.state (λ t. relabel_reached_keeps G c k.state h) h) (λ s h. kept h))))
+
+  pub relabel_ring_keeps : (G : Graph) (b : ℕ) (s : State) → Of I s → Kept (Of I) (relabel_ring G b s)
+  unfolding relabel_ring
+  relabel_ring_keeps G b s h =
+      skip (at s.labelling.label_ends b) _ (λ e. skip (present e) _ (λ e. skip (endpoint G (beside e)) _ (λ v.
+      skip (at s.forest.tops v) _ (λ entry. skip (at s.forest.children b) _ (λ kids. skip (position entry kids) _ (λ i.
+      kept_bind (kept_while {I = λ (k : Relabel). Of I k.state} (λ k h t. relabel_move_keeps G b (is_odd i) k h) (2 * G.nodes)
+      (record { place = i; p = e; state = s }) h) (λ k h.
+      skip (at kids 0) _ (λ base. kept_bind (relabel_base_keeps G base k.p k.state h.0) (λ s h.
+      kept_bind (kept_while {I = λ (k : Onward). Of I k.state} {test = onward_goes b entry} (λ k h t. onward_move_keeps G b (is_odd i) k h)
+      (2 * G.nodes) (record { place = around (is_odd i) (length kids) 0; state = s }) h) (λ o h.
+      kept h.0))))))))))
 
   -- ---- duals, and what follows an adjustment
 

@@ -1,4 +1,4 @@
-use Rattle.std.proofs.Common.{◌∙◌, ◌*◌, refl, arith}
+use Rattle.std.proofs.Common.{rules, ◌∙◌, ◌*◌, refl, arith}
 use Rattle.steps.specs.Augment.{match_trail}
 use Rattle.state.specs.Parts.{state_of}
 use Rattle.augment.proofs.TrailLaws.{trail_over, trail_goes_on}
@@ -26,4 +26,5 @@ loop-preserved c =
           trail_goes_on c.args.g.now n c.loop.counter c.loop.here s s' c.in_ok-next.field-0 m (omega (arith, l)) c.in-Some.next c.in-Some.is
           ∙ c.loop.invariant.rest at;
       size = c.in_ok-next.ensures.size ∙ c.loop.invariant.size;
+      others = search rules;
     }

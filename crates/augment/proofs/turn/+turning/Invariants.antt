@@ -2,6 +2,7 @@ use Rattle.std.proofs.Common.{◌≡◌, ◌+◌, ◌*◌, ◌-◌, ◌<◌}
 use Rattle.matching.specs.Graph.{is_odd}
 use Rattle.steps.specs.State.{Progress}
 use Rattle.state.specs.Parts.{state_of, sized}
+use Rattle.state.specs.Keeps.{Turned}
 use Rattle.augment.specs.Turns.{round}
 use Rattle.augment.proofs.turn.+turning.Given as goal
 
@@ -22,8 +23,9 @@ decreases-turn_ring l = 5 * l.depth + 3
 
 abbrev pub invariant-turn_ring-loop : goal.invariant-turn_ring-loop
 invariant-turn_ring-loop l = record {
-  rest : (at : Progress) → round l.g l.depth l.b.0 (is_odd l.i) (2 * l.g.nodes - l.counter) l.place (state_of l.lists at)
-      ≡ round l.g l.depth l.b.0 (is_odd l.i) (2 * l.g.nodes) l.i (state_of l.fn.lists at);
+  rest : (at : Progress) → round l.g l.depth l.b (is_odd l.i) (2 * l.g.nodes - l.counter) l.place (state_of l.lists at)
+      ≡ round l.g l.depth l.b (is_odd l.i) (2 * l.g.nodes) l.i (state_of l.fn.lists at);
   near : l.place < 65535;
   size : sized l.lists ≡ sized l.fn.lists;
+  others : Turned l.fn.lists l.lists;
 }

@@ -5,5 +5,5 @@ use Rattle.augment.proofs.turn.child_holding.Given as goal
 
 abbrev pub invariant-loop : goal.invariant-loop
 invariant-loop l =
-    while (climb_goes l.lists.forest.lists.parents l.b.0) (climb_move l.lists.forest.lists.parents) (2 * l.g.nodes - l.counter) l.t.0
-    ≡ while (climb_goes l.lists.forest.lists.parents l.b.0) (climb_move l.lists.forest.lists.parents) (2 * l.g.nodes) l.fn.v.0
+    while (climb_goes l.lists.forest.lists.parents l.b) (climb_move l.lists.forest.lists.parents) (2 * l.g.nodes - l.counter) l.t
+    ≡ while (climb_goes l.lists.forest.lists.parents l.b) (climb_move l.lists.forest.lists.parents) (2 * l.g.nodes) l.fn.v

@@ -4,7 +4,7 @@ use Rattle.certificate.proofs.chains.climb.Goals as goal
 
 pub loop-p-init : goal.loop-p-init
 loop-p-init c =
-    rw (c.number.ensures, c.number-2.ensures) (rising_start c.args.n _ _ c.args.v.0 c.requires.climbing c.requires.node c.requires.room)
+    rw (c.number.ensures, c.number-2.ensures) (rising_start c.args.n _ _ c.args.v c.requires.climbing c.requires.node c.requires.room)
 
 pub bounds-pool-row : goal.bounds-pool-row
 bounds-pool-row c =
@@ -19,5 +19,5 @@ loop-p-preserved c = rising_next _ _ _ _ _ _ _ _ c.requires.climbing.named c.loo
 
 pub returns : goal.returns
 returns c =
-    rising_end c.args.n _ _ c.args.v.0 c.requires.climbing c.requires.node c.requires.room _ _ _
+    rising_end c.args.n _ _ c.args.v c.requires.climbing c.requires.node c.requires.room _ _ _
     (rw (c.number.ensures, c.number-2.ensures) at c.loop-p.invariant) c.loop-p-test.false

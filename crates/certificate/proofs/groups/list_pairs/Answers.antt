@@ -16,7 +16,9 @@ loop-e-preserved c =
     record {
       few = omega (arith, bit_few c.is_matched.result);
       room = simp length-set c.loop-e.invariant.room;
-      entries = rw r (list_next _ _ c.loop-e.k c.loop-e.e c.is_matched.result (omega arith) c.is_matched.ensures c.loop-e.invariant.entries);
+      entries = rw r (
+          list_next _ _ c.loop-e.k c.loop-e.e c.is_matched.result (omega arith) (rw c.of.ensures at c.is_matched.ensures) c.loop-e.invariant.entries
+          );
     }
 
 pub returns : goal.returns

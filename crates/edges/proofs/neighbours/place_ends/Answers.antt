@@ -29,7 +29,7 @@ loop-p-preserved-then-v-n c =
     let h : l.p - 1 < length c.args.ends.now = omega (arith, c.loop-p-test.true, l.auto) in
     let lo : length l.offsets ≡ c.args.n + 1 = omega (arith, l.auto, p) in
     let lf : length l.far ≡ length c.args.ends.now = omega (arith, l.auto, p) in
-    rw (c.number.ensures, c.beside.ensures)
+    rw (c.number.ensures, c.beside.ensures, c.of.ensures)
     (record {
       placed = placed_more l.invariant.placed (l.p - 1) q h c.if-v-n.true lo lf;
       past = placed_past l.invariant.placed (l.p - 1) q h c.if-v-n.true lo lf c.args.far.now l.invariant.past;

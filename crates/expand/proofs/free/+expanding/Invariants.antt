@@ -3,6 +3,7 @@ use Rattle.laws.specs.Run.{for_each}
 use Rattle.steps.specs.State.{Progress}
 use Rattle.steps.specs.Expand.{free_child, expand_group}
 use Rattle.state.specs.Parts.{state_of, sized}
+use Rattle.state.specs.Keeps.{Expanded}
 use Rattle.state.specs.Kids.{kids_row}
 use Rattle.expand.proofs.free.+expanding.Given as goal
 
@@ -24,10 +25,11 @@ decreases-take_apart l = 5 * l.depth + 4
 abbrev pub invariant-free_children-loop-k : goal.invariant-free_children-loop-k
 invariant-free_children-loop-k l =
     let free = free_child l.g (expand_group l.g l.depth l.last) l.last in
-    let row = kids_row l.g.nodes l.b.0 l.m l.fn.lists.forest.kids in
+    let row = kids_row l.g.nodes l.b l.m l.fn.lists.forest.kids in
     record {
       rest : (at : Progress) → for_each free (drop l.k row) (state_of l.lists at) ≡ for_each free row (state_of l.fn.lists at);
       size : sized l.lists ≡ sized l.fn.lists;
+      others : Expanded l.last l.fn.lists l.lists;
       kids : l.lists.forest.kids ≡ l.fn.lists.forest.kids;
       room : l.nodes.room ≡ l.fn.nodes.room;
     }

@@ -6,16 +6,16 @@ use Rattle.expand.proofs.walk.onward.Goals as goal
 
 pub loop-preserved : goal.loop-preserved
 loop-preserved c =
-    let n : c.in_ok-read.field-0 ≢ c.args.entry.0 = grind (arith, common_steps) in
+    let n : c.in_ok-read.field-0 ≢ c.args.entry = grind (arith, common_steps) in
     let turn = λ (at : Progress).
-    onward_on _ _ _ c.args.ring.forward _ _ _ _ c.in_ok-kids.ensures.said _ c.in_ok-read.ensures.said (2 * c.args.g.now.nodes) c.loop.counter _ refl
-    (omega arith) n (c.in_ok-onward_child.ensures.said at) in
+    onward_on _ _ _ c.args.ring.now.forward _ _ _ _ c.in_ok-kids.ensures.said _ c.in_ok-read.ensures.said (2 * c.args.g.now.nodes) c.loop.counter _ refl
+    (omega arith) n (rw c.of-c.ensures at (c.in_ok-onward_child.ensures.said at)) in
     search (rules, turn)
 
 pub returns-in_err-onward_child-clause-said : goal.returns-in_err-onward_child-clause-said
 returns-in_err-onward_child-clause-said c =
-    let n : c.in_ok-read.field-0 ≢ c.args.entry.0 = grind (arith, common_steps) in
+    let n : c.in_ok-read.field-0 ≢ c.args.entry = grind (arith, common_steps) in
     let turn = λ (at : Progress).
-    onward_lost _ _ _ c.args.ring.forward (2 * c.args.g.now.nodes - c.loop.counter) _ _ _ c.in_ok-kids.ensures.said _ c.in_ok-read.ensures.said n
-    (c.in_err-onward_child.ensures.said at) in
+    onward_lost _ _ _ c.args.ring.now.forward (2 * c.args.g.now.nodes - c.loop.counter) _ _ _ c.in_ok-kids.ensures.said _ c.in_ok-read.ensures.said n
+    (rw c.of-c.ensures at (c.in_err-onward_child.ensures.said at)) in
     search (rules, turn)

@@ -6,5 +6,5 @@ use Rattle.grouping.proofs.best.tightest.Given as goal
 
 abbrev pub invariant-loop-e : goal.invariant-loop-e
 invariant-loop-e l =
-    for_each (tightest l.g l.lists.pairing.lists.duals) (drop l.e-index l.list) l.best.0
+    for_each (tightest l.g l.lists.pairing.lists.duals) (drop l.e-index l.list) l.best
     ≡ for_each (tightest l.g l.lists.pairing.lists.duals) l.list missing

@@ -8,7 +8,7 @@ pub returns-in_err-consider_edges-clause-said : goal.returns-in_err-consider_edg
 returns-in_err-consider_edges-clause-said c at =
     let a = c.args in
     let m : length c.in_ok-own.own.now ≢ 0 = grind (arith, common_steps) in
-    let e = own_some a.g.now (state_of a.lists.now at) a.new.0 a.c.0 a.links.now.links c.in_ok-own.own.now c.in_ok-own.ensures.said m
+    let e = own_some a.g.now (state_of a.lists.now at) a.new a.c a.links.now.links c.in_ok-own.own.now c.in_ok-own.ensures.said m
     ∙ c.in_err-consider_edges.ensures.said at in
     search (e, rules)
 
@@ -16,5 +16,5 @@ pub returns-in_ok-consider_edges-clause-said : goal.returns-in_ok-consider_edges
 returns-in_ok-consider_edges-clause-said c at =
     let a = c.args in
     let m : length c.in_ok-own.own.now ≢ 0 = grind (arith, common_steps) in
-    own_some a.g.now (state_of a.lists.now at) a.new.0 a.c.0 a.links.now.links c.in_ok-own.own.now c.in_ok-own.ensures.said m
+    own_some a.g.now (state_of a.lists.now at) a.new a.c a.links.now.links c.in_ok-own.own.now c.in_ok-own.ensures.said m
     ∙ c.in_ok-consider_edges.ensures.said at

@@ -7,7 +7,7 @@ use Rattle.grouping.proofs.consider.consider_ends.Given as goal
 
 abbrev pub invariant-loop-p : goal.invariant-loop-p
 invariant-loop-p l = record {
-  rest : (at : Progress) → for_each (at_end l.g (state_of l.lists at) l.new.0) (drop l.p-index l.list) l.links.links
-      ≡ for_each (at_end l.g (state_of l.lists at) l.new.0) l.list l.fn.links.links;
+  rest : (at : Progress) → for_each (at_end l.g (state_of l.lists at) l.new) (drop l.p-index l.list) l.links.links
+      ≡ for_each (at_end l.g (state_of l.lists at) l.new) l.list l.fn.links.links;
   size : l.links.nodes ≡ l.fn.links.nodes;
 }

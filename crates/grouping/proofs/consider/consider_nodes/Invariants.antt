@@ -8,8 +8,8 @@ use Rattle.grouping.proofs.consider.consider_nodes.Given as goal
 
 abbrev pub invariant-loop-v : goal.invariant-loop-v
 invariant-loop-v l = record {
-  rest : (at : Progress) → for_each (consider_at l.g (state_of l.lists at) l.new.0) (drop l.v-index l.list) l.links.links
-      ≡ for_each (consider_at l.g (state_of l.lists at) l.new.0) l.list l.fn.links.links;
+  rest : (at : Progress) → for_each (consider_at l.g (state_of l.lists at) l.new) (drop l.v-index l.list) l.links.links
+      ≡ for_each (consider_at l.g (state_of l.lists at) l.new) l.list l.fn.links.links;
   size : l.links.nodes ≡ l.fn.links.nodes;
   nodes : Each (λ v. v < l.g.nodes) (drop l.v-index l.list);
 }

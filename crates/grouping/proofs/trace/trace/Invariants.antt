@@ -12,7 +12,7 @@ decreases-loop-stop l = l.path.room - length l.path.kids
 abbrev pub invariant-loop-stop : goal.invariant-loop-stop
 invariant-loop-stop l = record {
   rest : (at : Progress)
-      → while (trace_goes l.stop.0) (trace_move l.g (state_of l.lists at)) (l.path.room - length l.path.kids) (standing l.here.0 l.path.kids l.path.ends)
-      ≡ while (trace_goes l.stop.0) (trace_move l.g (state_of l.lists at)) (2 * l.g.nodes) (standing l.fn.b.0 [] []);
+      → while (trace_goes l.stop) (trace_move l.g (state_of l.lists at)) (l.path.room - length l.path.kids) (standing l.here l.path.kids l.path.ends)
+      ≡ while (trace_goes l.stop) (trace_move l.g (state_of l.lists at)) (2 * l.g.nodes) (standing l.fn.b [] []);
   room : l.path.room ≡ 2 * l.g.nodes;
 }

@@ -11,7 +11,8 @@ decreases-loop-p l = length l.left
 abbrev pub invariant-loop-p : goal.invariant-loop-p
 invariant-loop-p l = record {
   rest : (at : Progress) → is_closing at.phase ≡ false
-      → visit_all is_group l.g l.v.0 l.left (state_of l.lists at) ≡ visit_all is_group l.g l.v.0 l.row (state_of l.fn.lists at);
+      → visit_all is_group l.g l.v l.left (state_of l.lists at) ≡ visit_all is_group l.g l.v l.row (state_of l.fn.lists at);
   size : sized l.lists ≡ size_of l.g;
+  free : l.lists.forest.free_places ≡ l.fn.lists.forest.free_places;
   room : l.scratch ≡ l.g.nodes;
 }

@@ -6,6 +6,8 @@ use Rattle.stages.proofs.delta.delta_three_at.Goals as goal
 pub returns-then-not-is_missing-clause-said : goal.returns-then-not-is_missing-clause-said
 unfolding delta3_at
 returns-then-not-is_missing-clause-said c at =
-    let there : is_missing c.in_ok-e.e.0 ≡ false = sym c.is_missing-then-l-eq1.ensures ∙ c.if-not-is_missing.true in
-    let top : is_missing c.in_ok-p.p.0 ≡ true = sym c.is_missing.ensures ∙ c.if-is_missing.true in
-    rw (c.in_ok-p.ensures.said, c.in_ok-l.ensures.said, c.if-l-eq1.true, c.in_ok-e.ensures, top, there) (c.offer_three.ensures.said at)
+    let there : is_missing c.in_ok-e.e ≡ false = sym c.is_missing-then-l-eq1.ensures ∙ c.if-not-is_missing.true in
+    let top : is_missing c.in_ok-p.p ≡ true = sym c.is_missing.ensures ∙ c.if-is_missing.true in
+    let label = rw c.number.ensures at c.in_ok-l.ensures.said in
+    let best = rw c.number-2.ensures at c.in_ok-e.ensures in
+    rw (c.in_ok-p.ensures.said, label, c.if-l-eq1.true, best, top, there) (c.offer_three.ensures.said at)

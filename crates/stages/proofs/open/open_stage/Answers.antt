@@ -1,4 +1,4 @@
-use Rattle.std.proofs.Common.{sym, ap, Result, Ok, Err}
+use Rattle.std.proofs.Common.{sym, Result, Ok, Err}
 use Rattle.std.specs.Bool.{⊤}
 use Rattle.laws.specs.Run.{Run, ok, ◌>>=◌, for_range}
 use Rattle.steps.specs.State.{State, Progress, searching}

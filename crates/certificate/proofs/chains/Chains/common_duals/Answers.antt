@@ -17,7 +17,7 @@ overflow_add-sum c =
     let t = c.args.self.now.table in
     let g = shared_group _ _ _ _ _ t.few_nodes t.climbing c.requires.near c.requires.first c.requires.second _ _ _ c.loop-i.invariant c.loop-i-test.true
     c.if-j-eq0.false in
-    let d = to_z-of_z w64 (get_or c.args.duals.now (get_or (chain c.args.self.now.parents.now c.args.self.now.nodes c.args.a.0) (c.loop-i.i - 1) 0) (pos 0))
+    let d = to_z-of_z w64 (get_or c.args.duals.now (get_or (chain c.args.self.now.parents.now c.args.self.now.nodes c.args.a) (c.loop-i.i - 1) 0) (pos 0))
     (near_fits _ (c.requires.near.is_small _ g)) in
     rw (c.row-x.ensures, d)
     (shared_fits _ _ _ _ _ t.few_nodes t.climbing c.requires.near c.requires.first c.requires.second _ _ _ c.loop-i.invariant c.loop-i-test.true
@@ -29,7 +29,7 @@ loop-i-preserved c =
     let t = c.args.self.now.table in
     let g = shared_group _ _ _ _ _ t.few_nodes t.climbing c.requires.near c.requires.first c.requires.second _ _ _ c.loop-i.invariant c.loop-i-test.true
     c.if-j-eq0.false in
-    let d = to_z-of_z w64 (get_or c.args.duals.now (get_or (chain c.args.self.now.parents.now c.args.self.now.nodes c.args.a.0) (c.loop-i.i - 1) 0) (pos 0))
+    let d = to_z-of_z w64 (get_or c.args.duals.now (get_or (chain c.args.self.now.parents.now c.args.self.now.nodes c.args.a) (c.loop-i.i - 1) 0) (pos 0))
     (near_fits _ (c.requires.near.is_small _ g)) in
     let f = shared_fits _ _ _ _ _ t.few_nodes t.climbing c.requires.near c.requires.first c.requires.second _ _ _ c.loop-i.invariant c.loop-i-test.true
     c.if-j-eq0.false in

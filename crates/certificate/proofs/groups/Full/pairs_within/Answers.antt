@@ -6,7 +6,7 @@ use Rattle.certificate.proofs.groups.Full.pairs_within.Goals as goal
 pub inside-requires : goal.inside-requires
 inside-requires c =
     let e = c.args.self.now.trial.now.edges in
-    listed_below _ _ _ _ e.known e.weighed _ _ c.args.self.now.listed c.loop-e.e-index (omega arith)
+    rw c.of.ensures (listed_below _ _ _ _ e.known e.weighed _ _ c.args.self.now.listed c.loop-e.e-index (omega arith))
 
 pub overflow_add-found : goal.overflow_add-found
 overflow_add-found c =

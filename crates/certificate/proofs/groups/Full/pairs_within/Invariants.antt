@@ -7,6 +7,6 @@ use Rattle.certificate.proofs.groups.Full.pairs_within.Given as goal
 abbrev pub invariant-loop-e : goal.invariant-loop-e
 invariant-loop-e l = record {
   few : l.found ≤ l.e-index;
-  rest : l.found + sum (drop l.e-index l.self.pairs.now) (λ e. bit (inside (graph l.self.trial.now.edges) l.self.trial.now.chains.parents.now l.b.0 e))
-      ≡ sum l.self.pairs.now (λ e. bit (inside (graph l.self.trial.now.edges) l.self.trial.now.chains.parents.now l.b.0 e));
+  rest : l.found + sum (drop l.e-index l.self.pairs.now) (λ e. bit (inside (graph l.self.trial.now.edges) l.self.trial.now.chains.parents.now l.b e))
+      ≡ sum l.self.pairs.now (λ e. bit (inside (graph l.self.trial.now.edges) l.self.trial.now.chains.parents.now l.b e));
 }
